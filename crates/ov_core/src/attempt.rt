@@ -50,7 +50,12 @@ pub(crate) fn try_once<K: Keeper + Drop>(
     audience: Audience<'_>,
     asked: Asked<'_>,
 ) -> Trial
-    ensures tried { IsTrial (sessions_of audience.entry.watchers.now audience.entry.sessions.now.open_sessions) asked.entry.session asked.entry.id.now (transaction db.old.schema db.old.committed (owns outbox.old.queues asked.entry.session) asked.entry.txn.now.draws asked.entry.age asked.entry.txn.now.operations) db.old outbox.old.frames result db.new outbox.new.frames }
+    ensures tried { IsTrial
+        (sessions_of audience.entry.watchers.now audience.entry.sessions.now.open_sessions)
+        asked.entry.session asked.entry.id.now
+        (transaction db.old.schema db.old.committed (owns outbox.old.queues asked.entry.session)
+        asked.entry.txn.now.draws asked.entry.age asked.entry.txn.now.operations)
+        db.old outbox.old.frames result db.new outbox.new.frames }
     ensures queues { outbox.new.queues ≡ outbox.old.queues }
     ensures asks { AsksStore K.failed (outcome_in result) db.old db.new }
     ensures counts { K.failed db.old.keeper ≤ K.failed db.new.keeper }
@@ -86,9 +91,11 @@ pub(crate) fn try_once<K: Keeper + Drop>(
 
 /// Sends what was prepared according to the store's answer, or gives it up if the store was not asked. Allocates nothing.
 fn send_prepared(replying: Replying<'_>, tried: &Tried) -> FrameQueues
-    requires room { (other : ℕ) → count_of other replying.prepared ≤ places_for other replying.queues }
+    requires room { (other : ℕ) → count_of other replying.prepared
+        ≤ places_for other replying.queues }
     ensures places { TakesPlaces replying.entry.prepared replying.entry.queues result }
-    ensures sent { SendsPrepared tried.now replying.entry.prepared replying.entry.exhausted replying.entry.failed replying.entry.queues result }
+    ensures sent { SendsPrepared tried.now replying.entry.prepared replying.entry.exhausted
+        replying.entry.failed replying.entry.queues result }
 {
     let Replying {
         alloc: _,
@@ -129,7 +136,8 @@ fn answer(
     id: &Tree,
     results: ArrayText,
 ) -> Option<Outcome>
-    ensures posts { PostsIfRoom (results_to session id.now results) outbox.old.frames result outbox.new.frames }
+    ensures posts { PostsIfRoom (results_to session id.now results) outbox.old.frames result
+        outbox.new.frames }
     ensures queues { outbox.new.queues ≡ outbox.old.queues }
 {
     match reply_with(alloc, id, &results) {

@@ -1,4 +1,5 @@
-ghost use Rattle.std.specs.Prelude.{◌≡◌, ◌≤◌, ◌<◌, ◌+◌, ℕ, [], length, Some, IfOk, true, codes, vec_capacity};
+ghost use Rattle.std.specs.Prelude.{◌≡◌, ◌≤◌, ◌<◌, ◌+◌, ℕ, [], length, Some, IfOk, true, codes};
+ghost use Rattle.std.specs.Prelude.{vec_capacity};
 ghost use Rattle.std.specs.List.{list_all};
 ghost use Rattle.ov_rpc.specs.Incoming.{StandsFor};
 ghost use Rattle.ov_specs.specs.machine.Machine as spec;
@@ -11,7 +12,8 @@ ghost use Rattle.ov_requests.specs.Waiting.{many, most_outstanding};
 ghost use Rattle.ov_sessions.specs.Sessions.{has_serial};
 ghost use Rattle.ov_laws.specs.Attempts.{own_attempts};
 ghost use Rattle.ov_core.specs.Counting.{RisesBy};
-ghost use Rattle.ov_core.specs.Handling.{AsksStore, HasRoomToWait, Works, WorksWith, HasSameRest, WaitsIfRoom, CancelsIfRoom, listed_of};
+ghost use Rattle.ov_core.specs.Handling.{AsksStore, HasRoomToWait, Works, WorksWith, HasSameRest};
+ghost use Rattle.ov_core.specs.Handling.{WaitsIfRoom, CancelsIfRoom, listed_of};
 ghost use Rattle.ov_core.specs.Settling.{ComesTo};
 ghost use Rattle.ov_core.specs.States.{state_of};
 
@@ -78,9 +80,13 @@ impl<K: Keeper + Drop> Live<K> {
         requires open { spec.is_open (state_of self.old moment) session ≡ true }
         requires none { attempts.old.items ≡ [] }
         requires room { length self.old.waiting.outstanding < vec_capacity attempts.old }
-        requires waits { (message : Message) × StandsFor incoming message × HasRoomToWait moment session message self.old }
-        ensures comes_to { (message : Message) → StandsFor incoming message → ComesTo K.failed moment (spec.Take session message) self.old result.items attempts.new.items self.new }
-        ensures honest { K.is_honest self.new.database.keeper → K.is_honest self.old.database.keeper }
+        requires waits { (message : Message) × StandsFor incoming message
+            × HasRoomToWait moment session message self.old }
+        ensures comes_to { (message : Message) → StandsFor incoming message
+            → ComesTo K.failed moment (spec.Take session message) self.old result.items
+            attempts.new.items self.new }
+        ensures honest { K.is_honest self.new.database.keeper
+            → K.is_honest self.old.database.keeper }
         ensures drawn { DrawsFrom D.draws source.old result.items source.new }
         ensures uuids { list_all is_uuid result.items ≡ true }
     {
@@ -108,14 +114,21 @@ impl<K: Keeper + Drop> Live<K> {
         source: &mut D,
     ) -> Handled
         requires open { spec.is_open (state_of self.old moment) session ≡ true }
-        requires waits { (message : Message) × StandsFor incoming message × HasRoomToWait moment session message self.old }
-        ensures works { (message : Message) → StandsFor incoming message → Works moment session (spec.work_of (state_of self.old moment) session message) self.old result self.new }
+        requires waits { (message : Message) × StandsFor incoming message
+            × HasRoomToWait moment session message self.old }
+        ensures works { (message : Message) → StandsFor incoming message
+            → Works moment session (spec.work_of (state_of self.old moment) session message)
+            self.old result self.new }
         ensures asks { AsksStore K.failed result.outcome self.old.database self.new.database }
         ensures counts { K.failed self.old.database.keeper ≤ K.failed self.new.database.keeper }
-        ensures honest { K.is_honest self.new.database.keeper → K.is_honest self.old.database.keeper }
+        ensures honest { K.is_honest self.new.database.keeper
+            → K.is_honest self.old.database.keeper }
         ensures drawn { DrawsFrom D.draws source.old result.draws.items source.new }
         ensures uuids { list_all is_uuid result.draws.items ≡ true }
-        ensures tries { (message : Message) → StandsFor incoming message → RisesBy (listed_of result.outcome) (own_attempts (spec.work_of (state_of self.old moment) session message)) self.old.tries self.new.tries }
+        ensures tries { (message : Message) → StandsFor incoming message
+            → RisesBy (listed_of result.outcome)
+            (own_attempts (spec.work_of (state_of self.old moment) session message))
+            self.old.tries self.new.tries }
     {
         let schema = self.database.schema();
         let Ok(work) = work_of(alloc, schema, &self.waiting, session, incoming) else {
@@ -133,7 +146,9 @@ impl<K: Keeper + Drop> Live<K> {
     fn at_once(&mut self, alloc: Global, session: u64, work: Work) -> Option<Outcome>
         requires open { has_serial session self.old.sessions.open_sessions ≡ true }
         requires undrawn { IsWithoutDraws work }
-        ensures works { (moment : ℕ) (asked : spec.Work) → IsWork (state_of self.old moment) session asked work → WorksWith moment session asked [] self.old result self.new }
+        ensures works { (moment : ℕ) (asked : spec.Work)
+            → IsWork (state_of self.old moment) session asked work
+            → WorksWith moment session asked [] self.old result self.new }
         ensures rest { HasSameRest self.old result self.new }
     {
         match work {
@@ -159,10 +174,12 @@ impl<K: Keeper + Drop> Live<K> {
         source: &mut D,
     ) -> Handled
         requires { many self.old.waiting < most_outstanding }
-        ensures works { Works moment session (spec.Transact id operations) self.old result self.new }
+        ensures works { Works moment session (spec.Transact id operations) self.old result
+            self.new }
         ensures asks { AsksStore K.failed result.outcome self.old.database self.new.database }
         ensures counts { K.failed self.old.database.keeper ≤ K.failed self.new.database.keeper }
-        ensures honest { K.is_honest self.new.database.keeper → K.is_honest self.old.database.keeper }
+        ensures honest { K.is_honest self.new.database.keeper
+            → K.is_honest self.old.database.keeper }
         ensures drawn { DrawsFrom D.draws source.old result.draws.items source.new }
         ensures uuids { list_all is_uuid result.draws.items ≡ true }
         ensures tries { RisesBy (listed_of result.outcome) 1 self.old.tries self.new.tries }
@@ -208,7 +225,9 @@ impl<K: Keeper + Drop> Live<K> {
         timeout: Option<u64>,
     ) -> Handled
         requires { many self.old.waiting < most_outstanding }
-        ensures waits { WaitsIfRoom (spec.arrived (state_of self.old moment) session id txn.draws txn.operations) timeout self.old result.outcome self.new }
+        ensures waits { WaitsIfRoom
+            (spec.arrived (state_of self.old moment) session id txn.draws txn.operations) timeout
+            self.old result.outcome self.new }
         ensures database { self.new.database ≡ self.old.database }
         ensures draws { result.draws.items ≡ txn.draws }
     {

@@ -29,7 +29,15 @@ pub(crate) struct Live<K: Keeper> {
 impl<K: Keeper + Drop> Live<K> {
     /// No frame waits, no lock is requested, there are no monitors, and no attempt has been made.
     pub fn new(alloc: Global, database: Db<K>, sessions: Sessions, waiting: Waiting) -> Live<K>
-        ensures { result ≡ record { database = database; sessions = sessions; watchers = []; waiting = waiting; outbox = record { frames = []; queues = [] }; tries = 0 } }
+        ensures { result
+            ≡ record {
+              database = database;
+              sessions = sessions;
+              watchers = [];
+              waiting = waiting;
+              outbox = record { frames = []; queues = [] };
+              tries = 0;
+            } }
     {
         Live {
             database,
@@ -43,7 +51,8 @@ impl<K: Keeper + Drop> Live<K> {
 
     /// Opens a session with the next serial and no monitors. If an allocation fails, nothing is changed.
     pub fn open(&mut self) -> Result<Session, AllocError>
-        requires { has_no_room (length self.old.sessions.open_sessions) self.old.sessions.next ≡ false }
+        requires { has_no_room (length self.old.sessions.open_sessions) self.old.sessions.next
+            ≡ false }
         ensures opened { IfOk result (λ session. OpensLive self.old session self.new) }
         ensures refused { OnErr result (self.new ≡ self.old) }
     {
@@ -73,7 +82,8 @@ impl<K: Keeper + Drop> Live<K> {
         requires none { attempts.old.items ≡ [] }
         requires room { length self.old.waiting.outstanding ≤ vec_capacity attempts.old }
         ensures comes_to { ComesTo K.failed moment Tick self.old [] attempts.new.items self.new }
-        ensures honest { K.is_honest self.new.database.keeper → K.is_honest self.old.database.keeper }
+        ensures honest { K.is_honest self.new.database.keeper
+            → K.is_honest self.old.database.keeper }
     {
         self.settle(alloc, moment, 1, attempts);
     }

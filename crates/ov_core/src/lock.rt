@@ -23,7 +23,12 @@ impl<K: Keeper + Drop> Live<K> {
         id: Tree,
         name: &str,
     ) -> Option<Outcome>
-        ensures works { (moment : ℕ) → WorksWith moment session (spec.unless_refused id (call_refusal (lock_call_view call) name.now session self.old.outbox.queues) (spec.Locks (lock_call_view call) id name.now)) [] self.old result self.new }
+        ensures works { (moment : ℕ)
+            → WorksWith moment session
+            (spec.unless_refused id
+            (call_refusal (lock_call_view call) name.now session self.old.outbox.queues)
+            (spec.Locks (lock_call_view call) id name.now))
+            [] self.old result self.new }
         ensures rest { HasSameRest self.old result self.new }
     {
         match self.outbox.ask(alloc, call, session, &id, name) {
@@ -37,7 +42,8 @@ impl<K: Keeper + Drop> Live<K> {
 
     /// Replies with an error in place of a result.
     pub fn refuse(&mut self, alloc: Global, session: u64, id: Tree, text: &str) -> Option<Outcome>
-        ensures works { (moment : ℕ) → WorksWith moment session (spec.refused id text.now) [] self.old result self.new }
+        ensures works { (moment : ℕ)
+            → WorksWith moment session (spec.refused id text.now) [] self.old result self.new }
         ensures rest { HasSameRest self.old result self.new }
     {
         match failure(alloc, id, text) {

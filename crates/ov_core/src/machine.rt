@@ -1,7 +1,11 @@
-ghost use Rattle.std.specs.Prelude.{◌≡◌, ◌≢◌, ◌≤◌, ◌-◌, ◌++◌, ℕ, List, [], length, max, true, false, MatchBool, IfOk, IfErr, IfNone, OnOk, OnErr, option_to_list};
+ghost use Rattle.std.specs.Prelude.{◌≡◌, ◌≢◌, ◌≤◌, ◌-◌, ◌++◌, ℕ, List, [], length, max, true};
+ghost use Rattle.std.specs.Prelude.{false, MatchBool, IfOk, IfErr, IfNone, OnOk, OnErr};
+ghost use Rattle.std.specs.Prelude.{option_to_list};
 ghost use Rattle.ov_specs.specs.rows.Cells.{Stored};
 ghost use Rattle.ov_specs.specs.machine.History.{joined};
-ghost use Rattle.ov_specs.specs.machine.Machine.{State, is_open, due, Open as SpecOpen, Tick as SpecTick, Take as SpecTake, Entry as SpecEntry};
+ghost use Rattle.ov_specs.specs.machine.Machine.{State, is_open, due, Open as SpecOpen};
+ghost use Rattle.ov_specs.specs.machine.Machine.{Tick as SpecTick, Take as SpecTake};
+ghost use Rattle.ov_specs.specs.machine.Machine.{Entry as SpecEntry};
 ghost use Rattle.ov_history.specs.Entries.{event_view, cause_view};
 ghost use Rattle.ov_outbox.specs.Frames.{waiting_for, has_queue};
 ghost use Rattle.ov_history.specs.History.{HasHistory};
@@ -97,7 +101,8 @@ impl<K: Keeper + Drop, D: Draws + Drop> Core<K, D> {
     /// wait. If an allocation for a `Take` fails, its session is closed. A refused step changes nothing. The history has room
     /// for the entry, and keeps the message's text as received.
     pub fn step(&mut self, alloc: Global, moment: u64, event: Event<Received>) -> Stepped
-        ensures steps { StepIs D.draws (max moment self.old.state.moment) (event_view event) self.old result self.new }
+        ensures steps { StepIs D.draws (max moment self.old.state.moment) (event_view event)
+            self.old result self.new }
         ensures honest { K.is_honest self.new.keeper → K.is_honest self.old.keeper }
     {
         let moment = moment.max(self.moment);
@@ -124,8 +129,11 @@ impl<K: Keeper + Drop, D: Draws + Drop> Core<K, D> {
     /// Opens a session at the last moment, with the next serial: an `Open` by itself. Refused as `TooMany` while 64 sessions
     /// are open or if no serial is left, otherwise only as `Memory`; a refusal changes nothing.
     pub fn open_session(&mut self) -> Result<Session, StepFault>
-        ensures opened { IfOk result (λ session. IsEntered D.draws self.old.state.moment SpecOpen self.old (Opened session) self.new) }
-        ensures refused { IfErr result (λ fault. (self.new ≡ self.old) × RefusesStep SpecOpen self.old.state fault) }
+        ensures opened { IfOk result
+            (λ session. IsEntered D.draws self.old.state.moment SpecOpen self.old (Opened session)
+            self.new) }
+        ensures refused { IfErr result (λ fault. (self.new ≡ self.old)
+            × RefusesStep SpecOpen self.old.state fault) }
         ensures honest { K.is_honest self.new.keeper → K.is_honest self.old.keeper }
     {
         let moment = self.moment;
@@ -135,8 +143,10 @@ impl<K: Keeper + Drop, D: Draws + Drop> Core<K, D> {
     /// Advances time to a moment in milliseconds, or to the last moment if that is later: a `Tick` by itself. Refused only as
     /// `Memory`, and only while transactions wait; a refusal changes nothing.
     pub fn tick(&mut self, alloc: Global, moment: u64) -> Result<(), StepFault>
-        ensures ticked { OnOk result (IsEntered D.draws (max moment self.old.state.moment) SpecTick self.old Done self.new) }
-        ensures refused { IfErr result (λ fault. (self.new ≡ self.old) × RefusesStep SpecTick self.old.state fault) }
+        ensures ticked { OnOk result
+            (IsEntered D.draws (max moment self.old.state.moment) SpecTick self.old Done self.new) }
+        ensures refused { IfErr result (λ fault. (self.new ≡ self.old)
+            × RefusesStep SpecTick self.old.state fault) }
         ensures honest { K.is_honest self.new.keeper → K.is_honest self.old.keeper }
     {
         let at = moment.max(self.moment);
@@ -148,7 +158,8 @@ impl<K: Keeper + Drop, D: Draws + Drop> Core<K, D> {
     pub fn pass_where_due(&mut self, alloc: Global, moment: u64) -> Result<bool, StepFault>
         ensures passes { IfOk result (λ ticks. TicksIf D.draws ticks moment self.old self.new) }
         ensures due { IfOk result (λ ticks. ticks ≡ is_due moment self.old.state) }
-        ensures refused { IfErr result (λ fault. (self.new ≡ self.old) × (is_due moment self.old.state ≡ true) × RefusesStep SpecTick self.old.state fault) }
+        ensures refused { IfErr result (λ fault. (self.new ≡ self.old)
+            × (is_due moment self.old.state ≡ true) × RefusesStep SpecTick self.old.state fault) }
         ensures honest { K.is_honest self.new.keeper → K.is_honest self.old.keeper }
     {
         match self.due() {
@@ -222,14 +233,19 @@ impl<K: Keeper + Drop, D: Draws + Drop> Core<K, D> {
 
     /// Hands out the oldest frame that waits for the session, even if it is closed; `None` if no frame waits for it.
     pub fn next_frame(&mut self, session: Session) -> Option<Bytes>
-        ensures handed { (before : State) (history : List SpecEntry) (given : ℕ → List (List ℕ)) → Follows before history given self.old
+        ensures handed { (before : State) (history : List SpecEntry) (given : ℕ → List (List ℕ))
+            → Follows before history given self.old
             → Follows before history (and_handed given session.serial result) self.new }
-        ensures oldest { waiting_for session.serial self.old.outbox ≡ option_to_list result ++ waiting_for session.serial self.new.outbox }
+        ensures oldest { waiting_for session.serial self.old.outbox
+            ≡ option_to_list result ++ waiting_for session.serial self.new.outbox }
         ensures none { IfNone result (waiting_for session.serial self.old.outbox ≡ []) }
-        ensures others { (other : ℕ) → other ≢ session.serial → waiting_for other self.new.outbox ≡ waiting_for other self.old.outbox }
+        ensures others { (other : ℕ) → other ≢ session.serial
+            → waiting_for other self.new.outbox ≡ waiting_for other self.old.outbox }
         ensures same { self.new ≡ record self.old { outbox = self.new.outbox } }
         // A closed session for which no more frames wait has no queue.
-        ensures forgotten { is_open self.old.state session.serial ≡ false → waiting_for session.serial self.new.outbox ≡ [] → has_queue session.serial self.new.outbox ≡ false }
+        ensures forgotten { is_open self.old.state session.serial ≡ false
+            → waiting_for session.serial self.new.outbox ≡ []
+            → has_queue session.serial self.new.outbox ≡ false }
     {
         let frame = self.live.outbox.pop(session.serial);
         if !self.is_open(session) {
@@ -243,9 +259,14 @@ impl<K: Keeper + Drop, D: Draws + Drop> Core<K, D> {
     pub fn take_output(&mut self, alloc: Global, session: Session) -> Result<Bytes, AllocError>
         ensures all { IfOk result (λ b. b ≡ joined (waiting_for session.serial self.old.outbox)) }
         ensures none_left { OnOk result (waiting_for session.serial self.new.outbox ≡ []) }
-        ensures others { OnOk result ((other : ℕ) → other ≢ session.serial → waiting_for other self.new.outbox ≡ waiting_for other self.old.outbox) }
-        ensures handed { OnOk result ((before : State) (history : List SpecEntry) (given : ℕ → List (List ℕ)) → Follows before history given self.old
-            → Follows before history (and_all_handed given session.serial (waiting_for session.serial self.old.outbox)) self.new) }
+        ensures others { OnOk result ((other : ℕ) → other ≢ session.serial
+            → waiting_for other self.new.outbox ≡ waiting_for other self.old.outbox) }
+        ensures handed { OnOk result
+            ((before : State) (history : List SpecEntry) (given : ℕ → List (List ℕ))
+            → Follows before history given self.old
+            → Follows before history
+            (and_all_handed given session.serial (waiting_for session.serial self.old.outbox))
+            self.new) }
         ensures same { OnOk result (self.new ≡ record self.old { outbox = self.new.outbox }) }
         // If an allocation fails, nothing was handed out.
         ensures refused { OnErr result (self.new ≡ self.old) }
@@ -259,12 +280,19 @@ impl<K: Keeper + Drop, D: Draws + Drop> Core<K, D> {
     pub fn discard(&mut self, session: Session)
         ensures open { is_open self.old.state session.serial ≡ true → self.new ≡ self.old }
         // Afterwards no frame waits for a closed session, and it has no queue.
-        ensures none_left { is_open self.old.state session.serial ≡ false → waiting_for session.serial self.new.outbox ≡ [] }
-        ensures forgotten { is_open self.old.state session.serial ≡ false → has_queue session.serial self.new.outbox ≡ false }
-        ensures others { (other : ℕ) → other ≢ session.serial → waiting_for other self.new.outbox ≡ waiting_for other self.old.outbox }
+        ensures none_left { is_open self.old.state session.serial ≡ false
+            → waiting_for session.serial self.new.outbox ≡ [] }
+        ensures forgotten { is_open self.old.state session.serial ≡ false
+            → has_queue session.serial self.new.outbox ≡ false }
+        ensures others { (other : ℕ) → other ≢ session.serial
+            → waiting_for other self.new.outbox ≡ waiting_for other self.old.outbox }
         // Frames that waited for a closed session count as handed out.
-        ensures handed { is_open self.old.state session.serial ≡ false → (before : State) (history : List SpecEntry) (given : ℕ → List (List ℕ)) → Follows before history given self.old
-            → Follows before history (and_all_handed given session.serial (waiting_for session.serial self.old.outbox)) self.new }
+        ensures handed { is_open self.old.state session.serial ≡ false
+            → (before : State) (history : List SpecEntry) (given : ℕ → List (List ℕ))
+            → Follows before history given self.old
+            → Follows before history
+            (and_all_handed given session.serial (waiting_for session.serial self.old.outbox))
+            self.new }
         ensures same { self.new ≡ record self.old { outbox = self.new.outbox } }
     {
         if self.is_open(session) {
@@ -277,9 +305,11 @@ impl<K: Keeper + Drop, D: Draws + Drop> Core<K, D> {
     /// after a failed commit possibly of the database that it would have made. If the keeper is honest, an open finds one of
     /// them. Does nothing.
     pub fn shows_left(&self)
-        ensures own { K.is_honest self.now.keeper → (held : Stored) → K.leaves self.now.keeper held → LeavesItsOwn self.now.state held }
+        ensures own { K.is_honest self.now.keeper → (held : Stored) → K.leaves self.now.keeper held
+            → LeavesItsOwn self.now.state held }
         // An open finds something.
-        ensures some { K.is_honest self.now.keeper → ∥ ((held : Stored) × K.leaves self.now.keeper held) ∥₁ }
+        ensures some { K.is_honest self.now.keeper
+            → ∥ ((held : Stored) × K.leaves self.now.keeper held) ∥₁ }
         ensures format { K.format self.now.keeper ≡ 2 }
     {
         self.live.database.shows_left();
@@ -303,7 +333,9 @@ impl<K: Keeper + Drop, D: Draws + Drop> Core<K, D> {
     /// States what an open after a crash now would find, an invariant of every core: the machine's database, or after a
     /// failed commit possibly the one that it would have made. Does nothing.
     pub fn shows_would_open(&self)
-        ensures { K.is_honest self.now.keeper → MayFind (K.leaves self.now.keeper) self.now.state.schema self.now.state.database self.now.state.sealed }
+        ensures { K.is_honest self.now.keeper
+            → MayFind (K.leaves self.now.keeper) self.now.state.schema self.now.state.database
+            self.now.state.sealed }
     {
         self.live.database.shows_left();
     }
@@ -319,8 +351,10 @@ impl<K: Keeper + Drop, D: Draws + Drop> Core<K, D> {
 
     fn open_at(&mut self, moment: u64) -> Result<Session, StepFault>
         requires { self.old.state.moment ≤ moment }
-        ensures opened { IfOk result (λ session. IsEntered D.draws moment SpecOpen self.old (Opened session) self.new) }
-        ensures refused { IfErr result (λ fault. (self.new ≡ self.old) × RefusesStep SpecOpen self.old.state fault) }
+        ensures opened { IfOk result
+            (λ session. IsEntered D.draws moment SpecOpen self.old (Opened session) self.new) }
+        ensures refused { IfErr result (λ fault. (self.new ≡ self.old)
+            × RefusesStep SpecOpen self.old.state fault) }
         ensures honest { K.is_honest self.new.keeper → K.is_honest self.old.keeper }
     {
         if self.live.sessions.is_full() {
@@ -338,7 +372,8 @@ impl<K: Keeper + Drop, D: Draws + Drop> Core<K, D> {
     fn tick_at(&mut self, alloc: Global, moment: u64) -> Result<(), StepFault>
         requires { self.old.state.moment ≤ moment }
         ensures ticked { OnOk result (IsEntered D.draws moment SpecTick self.old Done self.new) }
-        ensures refused { IfErr result (λ fault. (self.new ≡ self.old) × RefusesStep SpecTick self.old.state fault) }
+        ensures refused { IfErr result (λ fault. (self.new ≡ self.old)
+            × RefusesStep SpecTick self.old.state fault) }
         ensures honest { K.is_honest self.new.keeper → K.is_honest self.old.keeper }
     {
         let Ok(mut attempts) = Vec::with_capacity(alloc, self.live.waiting.len()) else {
@@ -384,7 +419,8 @@ impl<K: Keeper + Drop, D: Draws + Drop> Core<K, D> {
     /// Takes a message. If the list of its attempts cannot be allocated, closes its session instead.
     fn take(&mut self, alloc: Global, moment: u64, session: Session, received: Received) -> Stepped
         requires { self.old.state.moment ≤ moment }
-        ensures steps { StepIs D.draws moment (SpecTake session.serial received) self.old result self.new }
+        ensures steps { StepIs D.draws moment (SpecTake session.serial received) self.old result
+            self.new }
         ensures honest { K.is_honest self.new.keeper → K.is_honest self.old.keeper }
     {
         if !self.is_open(session) {

@@ -25,8 +25,10 @@ impl Places {
     /// Space for the 4,096 entries of the history, the serials of 64 sessions and 4,096 waiting transactions.
     fn new(alloc: Global) -> Result<Places, AllocError>
         ensures history { IfOk result (λ places. places.history ≡ []) }
-        ensures sessions { IfOk result (λ places. places.sessions ≡ record { open_sessions = []; next = 1 }) }
-        ensures waiting { IfOk result (λ places. places.waiting ≡ record { untried = []; outstanding = [] }) }
+        ensures sessions { IfOk result (λ places. places.sessions
+            ≡ record { open_sessions = []; next = 1 }) }
+        ensures waiting { IfOk result (λ places. places.waiting
+            ≡ record { untried = []; outstanding = [] }) }
     {
         Ok(Places {
             history: History::new(alloc)?,
@@ -88,7 +90,8 @@ fn open_database<K: Keeper + Drop, D: Draws + Drop>(
     schema: Schema,
     draws: D,
 ) -> Result<(Db<K>, D), RefusedOpen<K>>
-    ensures opened { IfOk result (λ it. OpensDatabase K.Keeper D.draws keeper schema draws it.0 it.1) }
+    ensures opened { IfOk result
+        (λ it. OpensDatabase K.Keeper D.draws keeper schema draws it.0 it.1) }
     ensures rest { IfOk result (λ it. (it.0.schema ≡ schema) × (it.0.sealed ≡ None)) }
     ensures refused { IfErr result (RefusesCore K.Keeper D.draws keeper schema draws) }
 {
@@ -111,7 +114,8 @@ fn convert_database<K: Keeper + Drop, D: Draws + Drop>(
     mut draws: D,
 ) -> Result<(Db<K>, D), RefusedOpen<K>>
     requires another { K.is_honest keeper → FindsAnother (K.leaves keeper) schema }
-    ensures opened { IfOk result (λ it. OpensDatabase K.Keeper D.draws keeper schema draws it.0 it.1) }
+    ensures opened { IfOk result
+        (λ it. OpensDatabase K.Keeper D.draws keeper schema draws it.0 it.1) }
     ensures rest { IfOk result (λ it. (it.0.schema ≡ schema) × (it.0.sealed ≡ None)) }
     ensures refused { IfErr result (RefusesCore K.Keeper D.draws keeper schema draws) }
 {

@@ -77,7 +77,8 @@ impl<'a> Replying<'a> {
 
     /// Prepares one update with these params for a session; false if an allocation fails.
     fn prepare_update(&mut self, session: u64, params: Trees) -> bool
-        ensures { PreparesMore (to_session session (update_notification params ∷ [])) self.old result self.new }
+        ensures { PreparesMore (to_session session (update_notification params ∷ [])) self.old
+            result self.new }
     {
         let Ok(frame) = notification(self.alloc, "update", params) else {
             return false;
@@ -92,7 +93,10 @@ impl<'a> Replying<'a> {
         db: &Db<K>,
         delta: &Delta,
     ) -> bool
-        ensures { PreparesMore (updates_to_one db.now.committed (applied delta.now db.now.committed) self.old.audience.watchers.now session) self.old result self.new }
+        ensures { PreparesMore
+            (updates_to_one db.now.committed (applied delta.now db.now.committed)
+            self.old.audience.watchers.now session)
+            self.old result self.new }
     {
         let Ok(updates) = self
             .audience
@@ -112,7 +116,11 @@ impl<'a> Replying<'a> {
     /// Prepares the updates of these changes (RFC 7047, 4.1.6) for the monitors of all sessions, session by session in order
     /// of opening; false if an allocation fails.
     fn prepare_updates<K: Keeper + Drop>(&mut self, db: &Db<K>, delta: &Delta) -> bool
-        ensures { PreparesMore (updates_sent db.now.committed (applied delta.now db.now.committed) (sessions_of self.old.audience.watchers.now self.old.audience.sessions.now.open_sessions)) self.old result self.new }
+        ensures { PreparesMore
+            (updates_sent db.now.committed (applied delta.now db.now.committed)
+            (sessions_of self.old.audience.watchers.now
+            self.old.audience.sessions.now.open_sessions))
+            self.old result self.new }
     {
         for session in self.audience.sessions.serials() {
             if !self.prepare_updates_of(*session, db, delta) {

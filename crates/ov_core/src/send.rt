@@ -17,7 +17,8 @@ pub(crate) fn send(
     frame: Option<Bytes>,
 ) -> Option<Outcome>
     // For any trees that the frame encodes.
-    ensures posts { (trees : List Data) → map spec_frame trees ≡ option_to_list frame → PostsIfRoom (to_session session trees) outbox.old.frames result outbox.new.frames }
+    ensures posts { (trees : List Data) → map spec_frame trees ≡ option_to_list frame
+        → PostsIfRoom (to_session session trees) outbox.old.frames result outbox.new.frames }
     ensures queues { outbox.new.queues ≡ outbox.old.queues }
     ensures unasked { IsUnasked result }
 {

@@ -1,4 +1,5 @@
-ghost use Rattle.std.specs.Prelude.{◌≡◌, ℕ, ◌+◌, ◌-◌, ◌<◌, ◌≤◌, ◌^◌, List, [], length, vec_len, vec_capacity};
+ghost use Rattle.std.specs.Prelude.{◌≡◌, ℕ, ◌+◌, ◌-◌, ◌<◌, ◌≤◌, ◌^◌, List, [], length, vec_len};
+ghost use Rattle.std.specs.Prelude.{vec_capacity};
 ghost use Rattle.ov_specs.specs.locks.Queues.{owns};
 ghost use Rattle.ov_specs.specs.operations.Transaction.{transaction};
 ghost use Rattle.ov_requests.specs.Waiting.{many};
@@ -26,10 +27,13 @@ impl<K: Keeper + Drop> Live<K> {
     /// none waits.
     pub fn settle(&mut self, alloc: Global, moment: u64, first: u64, attempts: &mut Vec<Attempt>)
         requires untried { self.old.waiting.untried ≡ [] }
-        requires room { vec_len attempts.old + length self.old.waiting.outstanding ≤ vec_capacity attempts.old }
+        requires room { vec_len attempts.old + length self.old.waiting.outstanding
+            ≤ vec_capacity attempts.old }
         requires first { first ≤ 2 }
-        ensures settles { Settles K.failed moment first self.old attempts.old.items self.new attempts.new.items }
-        ensures honest { K.is_honest self.new.database.keeper → K.is_honest self.old.database.keeper }
+        ensures settles { Settles K.failed moment first self.old attempts.old.items self.new
+            attempts.new.items }
+        ensures honest { K.is_honest self.new.database.keeper
+            → K.is_honest self.old.database.keeper }
     {
         self.waiting.begin();
         let mut number = first;
@@ -50,11 +54,13 @@ impl<K: Keeper + Drop> Live<K> {
         requires some { 0 < length self.old.waiting.untried }
         requires room { vec_len attempts.old + many self.old.waiting ≤ vec_capacity attempts.old }
         requires number { number < 2 ^ 63 }
-        ensures goes_on { (first : ℕ) (from : Living K) (before : List Listed) → IsSettling K.failed moment first from before self.old attempts.old.items number
+        ensures goes_on { (first : ℕ) (from : Living K) (before : List Listed)
+            → IsSettling K.failed moment first from before self.old attempts.old.items number
             → IsSettling K.failed moment first from before self.new attempts.new.items result }
         ensures room { vec_len attempts.new + many self.new.waiting ≤ vec_capacity attempts.new }
         ensures falls { to_do self.new.waiting < to_do self.old.waiting }
-        ensures honest { K.is_honest self.new.database.keeper → K.is_honest self.old.database.keeper }
+        ensures honest { K.is_honest self.new.database.keeper
+            → K.is_honest self.old.database.keeper }
     {
         let Some(next) = self.waiting.next() else {
             return number;
@@ -113,7 +119,13 @@ fn try_again<K: Keeper + Drop>(
     moment: u64,
     waits: &Outstanding,
 ) -> Trial
-    ensures tried { IsTrial (sessions_of audience.entry.watchers.now audience.entry.sessions.now.open_sessions) waits.now.session waits.now.id (transaction database.old.schema database.old.committed (owns outbox.old.queues waits.now.session) waits.now.draws (moment - waits.now.arrival) waits.now.operations) database.old outbox.old.frames result database.new outbox.new.frames }
+    ensures tried { IsTrial
+        (sessions_of audience.entry.watchers.now audience.entry.sessions.now.open_sessions)
+        waits.now.session waits.now.id
+        (transaction database.old.schema database.old.committed
+        (owns outbox.old.queues waits.now.session) waits.now.draws (moment - waits.now.arrival)
+        waits.now.operations)
+        database.old outbox.old.frames result database.new outbox.new.frames }
     ensures queues { outbox.new.queues ≡ outbox.old.queues }
     ensures asks { AsksStore K.failed (outcome_in result) database.old database.new }
     ensures counts { K.failed database.old.keeper ≤ K.failed database.new.keeper }

@@ -31,7 +31,12 @@ impl<K: Keeper + Drop> Live<K> {
         requests: &Tree,
     ) -> Option<Outcome>
         requires open { has_serial session self.old.sessions.open_sessions ≡ true }
-        ensures works { (moment : ℕ) → WorksWith moment session (spec.monitor_work (state_of self.old moment) id name.now (added self.old.database.schema (monitors_at session self.old.watchers) name.now requests.now)) [] self.old result self.new }
+        ensures works { (moment : ℕ)
+            → WorksWith moment session
+            (spec.monitor_work (state_of self.old moment) id name.now
+            (added self.old.database.schema (monitors_at session self.old.watchers) name.now
+            requests.now))
+            [] self.old result self.new }
         ensures rest { HasSameRest self.old result self.new }
     {
         let Ok(copy) = name.copy() else {
@@ -58,7 +63,13 @@ impl<K: Keeper + Drop> Live<K> {
         id: Tree,
         name: &Tree,
     ) -> Option<Outcome>
-        ensures posts { PostsIfRoom (spec.to_session session (reply_tree id (initial_of self.old.database.committed name.now (monitors_at session self.old.watchers)) ∷ [])) self.old.outbox.frames result self.new.outbox.frames }
+        ensures posts { PostsIfRoom
+            (spec.to_session session
+            (reply_tree id
+            (initial_of self.old.database.committed name.now
+            (monitors_at session self.old.watchers))
+            ∷ []))
+            self.old.outbox.frames result self.new.outbox.frames }
         ensures queues { self.new.outbox.queues ≡ self.old.outbox.queues }
         ensures same { self.new ≡ record self.old { outbox = self.new.outbox } }
     {
@@ -72,7 +83,8 @@ impl<K: Keeper + Drop> Live<K> {
 
     /// Replies with a result.
     fn answer(&mut self, alloc: Global, session: u64, id: Tree, told: Tree) -> Option<Outcome>
-        ensures posts { PostsIfRoom (spec.to_session session (reply_tree id told ∷ [])) self.old.outbox.frames result self.new.outbox.frames }
+        ensures posts { PostsIfRoom (spec.to_session session (reply_tree id told ∷ []))
+            self.old.outbox.frames result self.new.outbox.frames }
         ensures queues { self.new.outbox.queues ≡ self.old.outbox.queues }
         ensures same { self.new ≡ record self.old { outbox = self.new.outbox } }
     {
@@ -92,7 +104,11 @@ impl<K: Keeper + Drop> Live<K> {
         name: &Tree,
     ) -> Option<Outcome>
         requires open { has_serial session self.old.sessions.open_sessions ≡ true }
-        ensures works { (moment : ℕ) → WorksWith moment session (spec.monitor_cancel_work id (canceled (monitors_at session self.old.watchers) name.now)) [] self.old result self.new }
+        ensures works { (moment : ℕ)
+            → WorksWith moment session
+            (spec.monitor_cancel_work id
+            (canceled (monitors_at session self.old.watchers) name.now))
+            [] self.old result self.new }
         ensures rest { HasSameRest self.old result self.new }
     {
         match self.watchers.cancel(alloc, session, name) {

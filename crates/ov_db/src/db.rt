@@ -1,4 +1,5 @@
-ghost use Rattle.std.specs.Prelude.{◌≡◌, ◌≤◌, ◌==◌, true, is_some, option_copied, option_map, IfOk, IfErr, None, Ok};
+ghost use Rattle.std.specs.Prelude.{◌≡◌, ◌≤◌, ◌==◌, true, is_some, option_copied, option_map, IfOk};
+ghost use Rattle.std.specs.Prelude.{IfErr, None, Ok};
 ghost use Rattle.std.specs.FinMap.{get, entries, keys, len};
 ghost use Rattle.std.specs.List.{filter};
 ghost use Rattle.ov_specs.specs.conversion.Converted.{opening_of};
@@ -14,7 +15,8 @@ ghost use Rattle.ov_index.specs.Indexing.{AreIndexesOf};
 ghost use Rattle.ov_specs.specs.integrity.Committed.{is_whole};
 ghost use Rattle.ov_db.specs.Committing.{AreKept, Commits, MayFind, MayHold};
 ghost use Rattle.ov_db.specs.Lookups.{TellsIndexed, if_any, weak_holders};
-ghost use Rattle.ov_db.specs.Opening.{FindsOne, IsConvertFault, IsOpenFault, IsReadFault, LeavesOpened, LeavesUnopened, TellsRefusal, open_of};
+ghost use Rattle.ov_db.specs.Opening.{FindsOne, IsConvertFault, IsOpenFault, IsReadFault};
+ghost use Rattle.ov_db.specs.Opening.{LeavesOpened, LeavesUnopened, TellsRefusal, open_of};
 ghost use Rattle.ov_db.specs.declared.answer.StoreAnswer.TheVariants.{Kept, Failed};
 ghost use Rattle.ov_db.specs.declared.fault.OpenFault.TheVariants.{Keeping, SchemaDiffers};
 

@@ -6,7 +6,8 @@ ghost use Rattle.ov_specs.specs.rows.Held.{held};
 ghost use Rattle.ov_specs.specs.rows.Suits.{Suits};
 ghost use Rattle.ov_keeper.specs.declared.fault.KeepFault.TheVariants.{Memory};
 ghost use Rattle.ov_keeper.specs.Views.{lines_view};
-ghost use Rattle.ov_db.specs.Loading.{IsNotLoaded, IsLoaded, cells_entry, whole_entry, with_line, with_lines};
+ghost use Rattle.ov_db.specs.Loading.{IsNotLoaded, IsLoaded, cells_entry, whole_entry, with_line};
+ghost use Rattle.ov_db.specs.Loading.{with_lines};
 ghost use Rattle.ov_db.specs.Stored.{KeepsRows};
 ghost use Rattle.ov_db.specs.declared.fault.OpenFault.TheVariants.{Keeping};
 

@@ -1,11 +1,13 @@
-ghost use Rattle.std.specs.Prelude.{◌≡◌, ◌≤◌, ◌↔◌, ◌==◌, ◌&&◌, IsTrue, true, IfOk, IfErr, OnOk, OnErr, Ok, Err};
+ghost use Rattle.std.specs.Prelude.{◌≡◌, ◌≤◌, ◌↔◌, ◌==◌, ◌&&◌, IsTrue, true, IfOk, IfErr, OnOk};
+ghost use Rattle.std.specs.Prelude.{OnErr, Ok, Err};
 ghost use Rattle.serde_json.specs.Written.{compact_text};
 ghost use Rattle.ov_specs.specs.conversion.Converted.{if_held, opened, stored_of};
 ghost use Rattle.ov_specs.specs.integrity.Committed.{is_whole};
 ghost use Rattle.ov_specs.specs.rows.Cells.{format_of};
 ghost use Rattle.ov_specs.specs.rows.Held.{held};
 ghost use Rattle.ov_specs.specs.rows.Suits.{Suits};
-ghost use Rattle.ov_keeper.specs.Keeping.{HasFailed, IsCommitFault, LeavesMade, LeavesRefused, loaded_contents};
+ghost use Rattle.ov_keeper.specs.Keeping.{HasFailed, IsCommitFault, LeavesMade, LeavesRefused};
+ghost use Rattle.ov_keeper.specs.Keeping.{loaded_contents};
 ghost use Rattle.ov_keeper.specs.Views.{lines_view};
 ghost use Rattle.ov_keeper.specs.declared.fault.KeepFault.TheVariants.{Device};
 ghost use Rattle.ov_db.specs.Opening.{IsRefused, opens_as};

@@ -7,7 +7,8 @@ ghost use Rattle.ov_specs.specs.wire.Message.{tree_of};
 ghost use Rattle.ov_keeper.specs.declared.fault.KeepFault.TheVariants.{Memory};
 ghost use Rattle.ov_db.specs.Loading.{IsLoaded, whole_entry};
 ghost use Rattle.ov_db.specs.Guessed.{are_values_for};
-ghost use Rattle.ov_db.specs.Stored.{columns_by, columns_stored, row_of_table, row_stored, trees_in, value_from};
+ghost use Rattle.ov_db.specs.Stored.{columns_by, columns_stored, row_of_table, row_stored};
+ghost use Rattle.ov_db.specs.Stored.{trees_in, value_from};
 ghost use Rattle.ov_db.specs.declared.fault.OpenFault.TheVariants.{Keeping};
 
 use crate::fault::OpenFault;

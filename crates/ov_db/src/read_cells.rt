@@ -5,7 +5,8 @@ ghost use Rattle.ov_specs.specs.rows.Cells.{cells_of};
 ghost use Rattle.ov_specs.specs.rows.Held.{OfCells};
 ghost use Rattle.ov_keeper.specs.Views.{cells_view};
 ghost use Rattle.ov_db.specs.Loading.{IsLoaded, cells_entry};
-ghost use Rattle.ov_db.specs.Stored.{AreCellsRead, columns_stored, row_of_table, row_stored, value_stored};
+ghost use Rattle.ov_db.specs.Stored.{AreCellsRead, columns_stored, row_of_table, row_stored};
+ghost use Rattle.ov_db.specs.Stored.{value_stored};
 
 use crate::cells::{are_cells_of, are_same, body_at, cells_of};
 use crate::fault::OpenFault;

@@ -50,7 +50,8 @@ impl Resident {
     ghost use Rattle.ov_db.specs.Changing.{Delta, applied};
     ghost use Rattle.ov_db.specs.Opening.{IsNotWhole};
     ghost use Rattle.ov_db.specs.Placing.{IsPlaced};
-    ghost use Rattle.ov_db.specs.Residing.{IsBeside, IsResident, IsNoRoom, IsReady, LeadsBack, LeadsOn};
+    ghost use Rattle.ov_db.specs.Residing.{IsBeside, IsResident, IsNoRoom, IsReady, LeadsBack};
+    ghost use Rattle.ov_db.specs.Residing.{LeadsOn};
 
     /// Makes the links and indexes of these rows, if a commit would leave the rows as they are. Checks all of them.
     pub(crate) fn of(alloc: Global, schema: &Schema, rows: Rows) -> Result<Resident, OpenFault>
@@ -95,7 +96,9 @@ impl Resident {
 
     /// Removes again what was added to reserve space.
     pub(crate) fn take_back(&mut self, room: Room)
-        ensures { (schema : Schema) (database : Database) → LeadsBack schema database room.entry self.old → IsResident schema database self.new }
+        ensures { (schema : Schema) (database : Database)
+            → LeadsBack schema database room.entry self.old
+            → IsResident schema database self.new }
     {
         self.links.take_out(room.links.added.as_slice());
         self.indexes.take_out(room.indexes.added.as_slice());
@@ -104,7 +107,9 @@ impl Resident {
 
     /// Removes the references and index entries that the changes remove.
     pub(crate) fn let_go(&mut self, room: Room)
-        ensures { (schema : Schema) (delta : Delta) (database : Database) → LeadsOn schema delta database room.entry self.old → IsReady schema delta database self.new }
+        ensures { (schema : Schema) (delta : Delta) (database : Database)
+            → LeadsOn schema delta database room.entry self.old
+            → IsReady schema delta database self.new }
     {
         self.links.take_out(room.links.gone.as_slice());
         self.indexes.take_out(room.indexes.gone.as_slice());
@@ -113,7 +118,8 @@ impl Resident {
     /// Makes the changes. Space for them is reserved, so nothing grows.
     pub(crate) fn make(&mut self, alloc: Global, delta: Delta)
         requires { IsPlaced delta self.old.rows }
-        ensures { (schema : Schema) (database : Database) → IsReady schema delta database self.old → IsResident schema (applied delta database) self.new }
+        ensures { (schema : Schema) (database : Database) → IsReady schema delta database self.old
+            → IsResident schema (applied delta database) self.new }
     {
         make(alloc, &mut self.rows, delta);
     }

@@ -59,10 +59,15 @@ where
     S: Source + Drop,
     W: Sink + Drop,
     requires seats { AreSeats hall.old.keeps hall.old.desk.lanes.items hall.old.workers.items }
-    requires place { (at < vec_len hall.old.desk.lanes) × (slice_index_or hall.old.desk.lanes.items at None ≡ None) }
+    requires place { (at < vec_len hall.old.desk.lanes)
+        × (slice_index_or hall.old.desk.lanes.items at None ≡ None) }
     requires started { IsStarted hall.old.keeps hall.old.desk.core.state.next started }
-    ensures goes { (moment : ℕ) → GoesOn moment hall.old.desk.core hall.old.desk.lanes.items hall.new.desk.core hall.new.desk.lanes.items }
-    ensures answer { (bells parts : ℕ) → Admits bells parts hall.old.desk.core hall.old.desk.lanes.items result hall.new.desk.core hall.new.desk.lanes.items }
+    ensures goes { (moment : ℕ)
+        → GoesOn moment hall.old.desk.core hall.old.desk.lanes.items hall.new.desk.core
+        hall.new.desk.lanes.items }
+    ensures answer { (bells parts : ℕ)
+        → Admits bells parts hall.old.desk.core hall.old.desk.lanes.items result hall.new.desk.core
+        hall.new.desk.lanes.items }
     ensures seats { AreSeats hall.new.keeps hall.new.desk.lanes.items hall.new.workers.items }
     ensures honest { K.is_honest hall.new.desk.core.keeper → K.is_honest hall.old.desk.core.keeper }
 {
@@ -102,8 +107,11 @@ where
     S: Source + Send + Drop + 's,
     W: Sink + Send + Drop + 's,
     requires seats { AreSeats hall.old.keeps hall.old.desk.lanes.items hall.old.workers.items }
-    ensures goes { (moment : ℕ) → GoesOn moment hall.old.desk.core hall.old.desk.lanes.items hall.new.desk.core hall.new.desk.lanes.items }
-    ensures answer { Admits (vec_len bells.now) hall.old.parts.left hall.old.desk.core hall.old.desk.lanes.items result hall.new.desk.core hall.new.desk.lanes.items }
+    ensures goes { (moment : ℕ)
+        → GoesOn moment hall.old.desk.core hall.old.desk.lanes.items hall.new.desk.core
+        hall.new.desk.lanes.items }
+    ensures answer { Admits (vec_len bells.now) hall.old.parts.left hall.old.desk.core
+        hall.old.desk.lanes.items result hall.new.desk.core hall.new.desk.lanes.items }
     ensures seats { AreSeats hall.new.keeps hall.new.desk.lanes.items hall.new.workers.items }
     ensures honest { K.is_honest hall.new.desk.core.keeper → K.is_honest hall.old.desk.core.keeper }
 {

@@ -43,8 +43,12 @@ where
     requires workers { AreWorkersOf true lane workers }
     requires link { (k : SpecLink S W) × HaveLink k workers }
     requires over { (lane.ended ≡ true) × (lane.marked ≡ true) }
-    ensures ends { (k : SpecLink S W) → HaveLink k workers → (c : Course) → FitsCourse c lane.cause (received lane.inbound) (sent lane.outbound) lane.marked lane.ended
-        → CourseEnds c result.cause (source_of S.Source k.reader) (source_of S.Source result.reader) (sink_of W.Sink k.writer) (sink_of W.Sink result.writer) }
+    ensures ends { (k : SpecLink S W) → HaveLink k workers
+        → (c : Course)
+        → FitsCourse c lane.cause (received lane.inbound) (sent lane.outbound) lane.marked
+        lane.ended
+        → CourseEnds c result.cause (source_of S.Source k.reader) (source_of S.Source result.reader)
+        (sink_of W.Sink k.writer) (sink_of W.Sink result.writer) }
     ensures serial { result.serial ≡ lane.session.serial }
 {
     let Lane {
@@ -93,9 +97,11 @@ where
     L: Ledger,
     requires room { (ends.items ≡ []) × (vec_len lanes ≤ deque_capacity ends) }
     requires over { AreOver lanes.items }
-    requires seats { (links : List (SpecLink S W)) × Threewise IsSeatOf links lanes.items workers.items }
+    requires seats { (links : List (SpecLink S W))
+        × Threewise IsSeatOf links lanes.items workers.items }
     ensures { (links : List (SpecLink S W)) → Threewise IsSeatOf links lanes.items workers.items
-        → Threewise (λ k p e. EndsSeat (source_of S.Source) (sink_of W.Sink) k p e) links lanes.items result.items }
+        → Threewise (λ k p e. EndsSeat (source_of S.Source) (sink_of W.Sink) k p e) links
+        lanes.items result.items }
 {
     let mut lanes = lanes;
     let mut workers = workers;

@@ -1,4 +1,5 @@
-ghost use Rattle.std.specs.Prelude.{◌≡◌, ◌<◌, ℕ, None, Some, true, slice_index_or, slice_set, vec_len};
+ghost use Rattle.std.specs.Prelude.{◌≡◌, ◌<◌, ℕ, None, Some, true, slice_index_or, slice_set};
+ghost use Rattle.std.specs.Prelude.{vec_len};
 ghost use Rattle.ov_lanes.specs.Lanes.{GoesOn, StayAs, StaysAs};
 ghost use Rattle.ov_lanes.specs.declared.lane.Lane.{Lane as SpecLane};
 ghost use Rattle.ov_lanes.specs.declared.link.Link.{Link as SpecLink};
@@ -36,7 +37,8 @@ pub(crate) struct Hall<K: Keeper, D: Draws, S: Source, W: Sink, L: Ledger> {
 /// Takes what is in a place out of it.
 fn take_out<T: Drop>(places: &mut Vec<Option<T>>, at: usize) -> Option<T>
     requires { at < vec_len places.old }
-    ensures { (result ≡ slice_index_or places.old.items at None) × (places.new.items ≡ slice_set places.old.items at None) }
+    ensures { (result ≡ slice_index_or places.old.items at None)
+        × (places.new.items ≡ slice_set places.old.items at None) }
 {
     places[at].take()
 }
@@ -57,7 +59,8 @@ fn tend_lane<R: Wait>(rt: &R, bell: &Bell, lane: &mut Lane) -> bool
 /// The same for the session at a place; false if there is none.
 fn tend_place<R: Wait>(rt: &R, bell: &Bell, place: &mut Option<Lane>) -> bool
     ensures tended { StaysAs IsTended place.old place.new }
-    ensures over { result ≡ true → (lane : SpecLane) × (place.new ≡ Some lane) × (lane.ended ≡ true) × (lane.marked ≡ true) }
+    ensures over { result ≡ true
+        → (lane : SpecLane) × (place.new ≡ Some lane) × (lane.ended ≡ true) × (lane.marked ≡ true) }
 {
     match place {
         Some(lane) => tend_lane(rt, bell, lane),
@@ -69,7 +72,9 @@ fn tend_place<R: Wait>(rt: &R, bell: &Bell, place: &mut Option<Lane>) -> bool
 fn tend_lane_at<R: Wait>(rt: &R, bell: &Bell, lanes: &mut Vec<Option<Lane>>, at: usize) -> bool
     requires { at < vec_len lanes.old }
     ensures tended { StayAs IsTended lanes.old.items lanes.new.items }
-    ensures over { result ≡ true → (lane : SpecLane) × (slice_index_or lanes.new.items at None ≡ Some lane) × (lane.ended ≡ true) × (lane.marked ≡ true) }
+    ensures over { result ≡ true
+        → (lane : SpecLane) × (slice_index_or lanes.new.items at None ≡ Some lane)
+        × (lane.ended ≡ true) × (lane.marked ≡ true) }
 {
     let place = &mut lanes[at];
     tend_place(rt, bell, place)
@@ -89,8 +94,10 @@ where
         requires place { at < vec_len self.old.desk.lanes }
         requires workers { AreWorkersOf self.old.keeps lane workers }
         requires link { (k : SpecLink S W) × HaveLink k workers }
-        ensures lanes { self.new.desk.lanes.items ≡ slice_set self.old.desk.lanes.items at (Some lane) }
-        ensures same { (self.new.desk.core ≡ self.old.desk.core) × (self.new.keeps ≡ self.old.keeps) }
+        ensures lanes { self.new.desk.lanes.items
+            ≡ slice_set self.old.desk.lanes.items at (Some lane) }
+        ensures same { (self.new.desk.core ≡ self.old.desk.core)
+            × (self.new.keeps ≡ self.old.keeps) }
         ensures seats { AreSeats self.new.keeps self.new.desk.lanes.items self.new.workers.items }
     {
         self.desk.lanes[at] = Some(lane);
@@ -100,9 +107,13 @@ where
     /// Frees the place of a session that has left, and joins its workers.
     fn leave<R: Threads + Wait>(&mut self, rt: &R, at: usize)
         requires seats { AreSeats self.old.keeps self.old.desk.lanes.items self.old.workers.items }
-        requires left { (at < vec_len self.old.desk.lanes) × ((lane : SpecLane) × (slice_index_or self.old.desk.lanes.items at None ≡ Some lane) × (lane.ended ≡ true)) }
+        requires left { (at < vec_len self.old.desk.lanes)
+            × ((lane : SpecLane) × (slice_index_or self.old.desk.lanes.items at None ≡ Some lane)
+            × (lane.ended ≡ true)) }
         ensures many { vec_len self.new.desk.lanes ≡ vec_len self.old.desk.lanes }
-        ensures goes { (moment : ℕ) → GoesOn moment self.old.desk.core self.old.desk.lanes.items self.new.desk.core self.new.desk.lanes.items }
+        ensures goes { (moment : ℕ)
+            → GoesOn moment self.old.desk.core self.old.desk.lanes.items self.new.desk.core
+            self.new.desk.lanes.items }
         ensures same { (self.new.keeps ≡ self.old.keeps) × (self.new.accepted ≡ self.old.accepted) }
         ensures seats { AreSeats self.new.keeps self.new.desk.lanes.items self.new.workers.items }
         ensures core { self.new.desk.core ≡ self.old.desk.core }
@@ -119,9 +130,13 @@ where
         requires seats { AreSeats self.old.keeps self.old.desk.lanes.items self.old.workers.items }
         requires place { at < vec_len self.old.desk.lanes }
         ensures many { vec_len self.new.desk.lanes ≡ vec_len self.old.desk.lanes }
-        ensures goes { (moment : ℕ) → GoesOn moment self.old.desk.core self.old.desk.lanes.items self.new.desk.core self.new.desk.lanes.items }
+        ensures goes { (moment : ℕ)
+            → GoesOn moment self.old.desk.core self.old.desk.lanes.items self.new.desk.core
+            self.new.desk.lanes.items }
         ensures same { (self.new.keeps ≡ self.old.keeps) × (self.new.accepted ≡ self.old.accepted) }
-        ensures kept { self.old.keeps ≡ true → StayAs IsTended self.old.desk.lanes.items self.new.desk.lanes.items × (self.new.workers ≡ self.old.workers) }
+        ensures kept { self.old.keeps ≡ true
+            → StayAs IsTended self.old.desk.lanes.items self.new.desk.lanes.items
+            × (self.new.workers ≡ self.old.workers) }
         ensures seats { AreSeats self.new.keeps self.new.desk.lanes.items self.new.workers.items }
         ensures core { self.new.desk.core ≡ self.old.desk.core }
     {
@@ -138,9 +153,13 @@ where
     /// left.
     pub fn tend<R: Threads + Wait>(&mut self, rt: &R, bells: &Vec<Bell>)
         requires seats { AreSeats self.old.keeps self.old.desk.lanes.items self.old.workers.items }
-        ensures goes { (moment : ℕ) → GoesOn moment self.old.desk.core self.old.desk.lanes.items self.new.desk.core self.new.desk.lanes.items }
+        ensures goes { (moment : ℕ)
+            → GoesOn moment self.old.desk.core self.old.desk.lanes.items self.new.desk.core
+            self.new.desk.lanes.items }
         ensures same { (self.new.keeps ≡ self.old.keeps) × (self.new.accepted ≡ self.old.accepted) }
-        ensures kept { self.old.keeps ≡ true → StayAs IsTended self.old.desk.lanes.items self.new.desk.lanes.items × (self.new.workers ≡ self.old.workers) }
+        ensures kept { self.old.keeps ≡ true
+            → StayAs IsTended self.old.desk.lanes.items self.new.desk.lanes.items
+            × (self.new.workers ≡ self.old.workers) }
         ensures seats { AreSeats self.new.keeps self.new.desk.lanes.items self.new.workers.items }
         ensures core { self.new.desk.core ≡ self.old.desk.core }
     {

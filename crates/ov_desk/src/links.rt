@@ -1,4 +1,5 @@
-ghost use Rattle.std.specs.Prelude.{◌≡◌, ◌≤◌, ◌-◌, ◌^◌, ℕ, [], true, vec_len, vec_capacity, IfOk, IfErr, OnErr};
+ghost use Rattle.std.specs.Prelude.{◌≡◌, ◌≤◌, ◌-◌, ◌^◌, ℕ, [], true, vec_len, vec_capacity, IfOk};
+ghost use Rattle.std.specs.Prelude.{IfErr, OnErr};
 ghost use Rattle.ov_core.specs.Following.{CoreState};
 ghost use Rattle.std.specs.VecDeque.{deque_len};
 ghost use Rattle.ov_ends.specs.States.{source_of, sink_of};
@@ -93,7 +94,8 @@ where
     requires places { has_places (vec_len bells.now) core.old.state ≡ true }
     requires parts { vec_len bells.now ≤ parts.left }
     ensures opened { IfOk result (λ o. IsOpened (vec_len bells.now) core.old core.new o) }
-    ensures refused { IfErr result (λ fault. RefusesLinks (vec_len bells.now) core.old fault core.new) }
+    ensures refused { IfErr result
+        (λ fault. RefusesLinks (vec_len bells.now) core.old fault core.new) }
     ensures honest { K.is_honest core.new.keeper → K.is_honest core.old.keeper }
 {
     shows_nothing_opened(core);
@@ -131,7 +133,8 @@ where
     requires lanes { (lanes.old.items ≡ []) × (deque_len links ≤ vec_capacity lanes.old) }
     requires workers { (workers.old.items ≡ []) × (deque_len links ≤ vec_capacity workers.old) }
     ensures { (first : ℕ) → AreStarted true first started.items → AreSessions first sessions.items
-        → AreNewLanes first lanes.new.items × Threewise IsSeatOf links.items lanes.new.items workers.new.items }
+        → AreNewLanes first lanes.new.items
+        × Threewise IsSeatOf links.items lanes.new.items workers.new.items }
 {
     let mut started = started;
     let mut sessions = sessions;
@@ -172,7 +175,8 @@ where
     C: Clock,
     requires { (old : CoreState K D) × IsOpened (deque_len links) old core opened }
     ensures served { (old : CoreState K D) → IsOpened (deque_len links) old core opened
-        → ServesAll (source_of S.Source) (sink_of W.Sink) C.tells old clock.old result.desk.core clock.new links.items result.ends.items }
+        → ServesAll (source_of S.Source) (sink_of W.Sink) C.tells old clock.old result.desk.core
+        clock.new links.items result.ends.items }
     ensures honest { K.is_honest result.desk.core.keeper → K.is_honest core.keeper }
 {
     let Opened {
@@ -226,11 +230,15 @@ where
     requires bells { vec_len bells.now ≡ deque_len links }
     requires places { has_places (deque_len links) core.state ≡ true }
     requires parts { deque_len links ≤ parts.left }
-    ensures served { IfOk result (λ s. ServesAll (source_of S.Source) (sink_of W.Sink) C.tells core clock.old s.desk.core clock.new links.items s.ends.items) }
-    ensures refused { IfErr result (λ r. RefusesLinks (deque_len links) core r.fault r.desk.core × (r.links.items ≡ links.items)) }
+    ensures served { IfOk result
+        (λ s. ServesAll (source_of S.Source) (sink_of W.Sink) C.tells core clock.old s.desk.core
+        clock.new links.items s.ends.items) }
+    ensures refused { IfErr result (λ r. RefusesLinks (deque_len links) core r.fault r.desk.core
+        × (r.links.items ≡ links.items)) }
     ensures untouched { OnErr result (clock.new ≡ clock.old) }
     ensures honest { IfOk result (λ s. K.is_honest s.desk.core.keeper → K.is_honest core.keeper) }
-    ensures honest_refused { IfErr result (λ r. K.is_honest r.desk.core.keeper → K.is_honest core.keeper) }
+    ensures honest_refused { IfErr result (λ r. K.is_honest r.desk.core.keeper
+        → K.is_honest core.keeper) }
 {
     let (served, _clock) = thread::scope(
         thread::scope_env(),
@@ -239,12 +247,18 @@ where
             requires bells { vec_len bells.now ≡ deque_len links }
             requires places { has_places (deque_len links) core.state ≡ true }
             requires parts { deque_len links ≤ parts.left }
-            ensures served { IfOk result.0 (λ s. ServesAll (source_of S.Source) (sink_of W.Sink) C.tells core clock.entry.now s.desk.core result.1.now links.items s.ends.items) }
-            ensures refused { IfErr result.0 (λ r. RefusesLinks (deque_len links) core r.fault r.desk.core × (r.links.items ≡ links.items)) }
+            ensures served { IfOk result.0
+                (λ s. ServesAll (source_of S.Source) (sink_of W.Sink) C.tells core clock.entry.now
+                s.desk.core result.1.now links.items s.ends.items) }
+            ensures refused { IfErr result.0
+                (λ r. RefusesLinks (deque_len links) core r.fault r.desk.core
+                × (r.links.items ≡ links.items)) }
             ensures untouched { OnErr result.0 (result.1.now ≡ clock.entry.now) }
             ensures same_clock { result.1.ghost_name ≡ clock.entry.ghost_name }
-            ensures honest { IfOk result.0 (λ s. K.is_honest s.desk.core.keeper → K.is_honest core.keeper) }
-            ensures honest_refused { IfErr result.0 (λ r. K.is_honest r.desk.core.keeper → K.is_honest core.keeper) }
+            ensures honest { IfOk result.0 (λ s. K.is_honest s.desk.core.keeper
+                → K.is_honest core.keeper) }
+            ensures honest_refused { IfErr result.0 (λ r. K.is_honest r.desk.core.keeper
+                → K.is_honest core.keeper) }
         {
             let mut core = core;
             match open_all(common, scope, bells, &mut core, parts) {
@@ -295,11 +309,15 @@ where
     requires name { blank.name ≡ L.name }
     requires parts { (blank.parts ≡ L.parts) × (blank.parts ≡ 2 ^ 64 - 1) }
     requires places { has_places (deque_len links) core.state ≡ true }
-    ensures served { IfOk result (λ s. ServesAll (source_of S.Source) (sink_of W.Sink) C.tells core clock.old s.desk.core clock.new links.items s.ends.items) }
-    ensures refused { IfErr result (λ r. RefusesLinks (deque_len links) core r.fault r.desk.core × (r.links.items ≡ links.items)) }
+    ensures served { IfOk result
+        (λ s. ServesAll (source_of S.Source) (sink_of W.Sink) C.tells core clock.old s.desk.core
+        clock.new links.items s.ends.items) }
+    ensures refused { IfErr result (λ r. RefusesLinks (deque_len links) core r.fault r.desk.core
+        × (r.links.items ≡ links.items)) }
     ensures untouched { OnErr result (clock.new ≡ clock.old) }
     ensures honest { IfOk result (λ s. K.is_honest s.desk.core.keeper → K.is_honest core.keeper) }
-    ensures honest_refused { IfErr result (λ r. K.is_honest r.desk.core.keeper → K.is_honest core.keeper) }
+    ensures honest_refused { IfErr result (λ r. K.is_honest r.desk.core.keeper
+        → K.is_honest core.keeper) }
 {
     let (book, all) = blank.open::<L>();
     let (Ok(order), Ok(bells)) = (Order::new(alloc, book), all_bells(alloc, links.len())) else {
@@ -359,11 +377,17 @@ where
     S: Source + Send + Drop,
     W: Sink + Send + Drop,
     C: Clock,
-    ensures served { IfOk result (λ s. ServesAll (source_of S.Source) (sink_of W.Sink) C.tells desk.core clock.old s.desk.core clock.new links.items s.ends.items) }
-    ensures refused { IfErr result (λ r. RefusesLinks (deque_len links) desk.core r.fault r.desk.core × (r.links.items ≡ links.items)) }
+    ensures served { IfOk result
+        (λ s. ServesAll (source_of S.Source) (sink_of W.Sink) C.tells desk.core clock.old
+        s.desk.core clock.new links.items s.ends.items) }
+    ensures refused { IfErr result
+        (λ r. RefusesLinks (deque_len links) desk.core r.fault r.desk.core
+        × (r.links.items ≡ links.items)) }
     ensures untouched { OnErr result (clock.new ≡ clock.old) }
-    ensures honest { IfOk result (λ s. K.is_honest s.desk.core.keeper → K.is_honest desk.core.keeper) }
-    ensures honest_refused { IfErr result (λ r. K.is_honest r.desk.core.keeper → K.is_honest desk.core.keeper) }
+    ensures honest { IfOk result (λ s. K.is_honest s.desk.core.keeper
+        → K.is_honest desk.core.keeper) }
+    ensures honest_refused { IfErr result (λ r. K.is_honest r.desk.core.keeper
+        → K.is_honest desk.core.keeper) }
 {
     let core = desk.into_core();
     if !has_places(&core, links.len()) {

@@ -103,7 +103,8 @@ struct Door<S, W, L: Ledger, T> {
 /// No session is served yet.
 fn shows_none_served<K: Keeper + Drop, D: Draws + Drop>(desk: &Desk<K, D>)
     requires { AreFree desk.now.lanes.items }
-    ensures { (serves : Serves desk.now.core desk.now.core desk.now.lanes.items) × (serves.since.entries ≡ []) }
+    ensures { (serves : Serves desk.now.core desk.now.core desk.now.lanes.items)
+        × (serves.since.entries ≡ []) }
 {
     let _ = desk.core.history();
 }
@@ -129,11 +130,14 @@ where
     C: Clock,
     requires free { AreFree hall.desk.lanes.items }
     requires seats { AreSeats hall.keeps hall.desk.lanes.items hall.workers.items }
-    ensures served { IfOk result (λ desk. ServesLobby C.tells hall.desk.core clock.old desk.core clock.new) }
-    ensures refused { IfErr result (λ r. (r.desk.core ≡ hall.desk.core) × (r.listener ≡ door.listener)) }
+    ensures served { IfOk result
+        (λ desk. ServesLobby C.tells hall.desk.core clock.old desk.core clock.new) }
+    ensures refused { IfErr result (λ r. (r.desk.core ≡ hall.desk.core)
+        × (r.listener ≡ door.listener)) }
     ensures fault { IfErr result (λ r. r.fault ≡ serve_fault.Threads) }
     ensures untouched { OnErr result (clock.new ≡ clock.old) }
-    ensures honest { IfOk result (λ d. K.is_honest d.core.keeper → K.is_honest hall.desk.core.keeper) }
+    ensures honest { IfOk result (λ d. K.is_honest d.core.keeper
+        → K.is_honest hall.desk.core.keeper) }
 {
     let Door {
         listener,
@@ -185,11 +189,14 @@ where
     C: Clock,
     requires free { AreFree hall.desk.lanes.items }
     requires seats { AreSeats hall.keeps hall.desk.lanes.items hall.workers.items }
-    ensures served { IfOk result (λ desk. ServesLobby C.tells hall.desk.core clock.old desk.core clock.new) }
-    ensures refused { IfErr result (λ r. (r.desk.core ≡ hall.desk.core) × (r.listener ≡ door.listener)) }
+    ensures served { IfOk result
+        (λ desk. ServesLobby C.tells hall.desk.core clock.old desk.core clock.new) }
+    ensures refused { IfErr result (λ r. (r.desk.core ≡ hall.desk.core)
+        × (r.listener ≡ door.listener)) }
     ensures fault { IfErr result (λ r. r.fault ≡ serve_fault.Threads) }
     ensures untouched { OnErr result (clock.new ≡ clock.old) }
-    ensures honest { IfOk result (λ d. K.is_honest d.core.keeper → K.is_honest hall.desk.core.keeper) }
+    ensures honest { IfOk result (λ d. K.is_honest d.core.keeper
+        → K.is_honest hall.desk.core.keeper) }
 {
     let (served, _clock) = thread::scope(
         thread::scope_env(),
@@ -197,12 +204,16 @@ where
         move |scope| -> (Result<Desk<K, D>, RefusedLobby<K, D, T>>, &mut C)
             requires free { AreFree hall.desk.lanes.items }
             requires seats { AreSeats hall.keeps hall.desk.lanes.items hall.workers.items }
-            ensures served { IfOk result.0 (λ desk. ServesLobby C.tells hall.desk.core clock.entry.now desk.core result.1.now) }
-            ensures refused { IfErr result.0 (λ r. (r.desk.core ≡ hall.desk.core) × (r.listener ≡ door.listener)) }
+            ensures served { IfOk result.0
+                (λ desk. ServesLobby C.tells hall.desk.core clock.entry.now desk.core
+                result.1.now) }
+            ensures refused { IfErr result.0 (λ r. (r.desk.core ≡ hall.desk.core)
+                × (r.listener ≡ door.listener)) }
             ensures fault { IfErr result.0 (λ r. r.fault ≡ serve_fault.Threads) }
             ensures untouched { OnErr result.0 (result.1.now ≡ clock.entry.now) }
             ensures same_clock { result.1.ghost_name ≡ clock.entry.ghost_name }
-            ensures honest { IfOk result.0 (λ d. K.is_honest d.core.keeper → K.is_honest hall.desk.core.keeper) }
+            ensures honest { IfOk result.0 (λ d. K.is_honest d.core.keeper
+                → K.is_honest hall.desk.core.keeper) }
         {
             let served = serve_scoped(common, scope, bells, hall, door, clock);
             (served, clock)
@@ -235,7 +246,8 @@ where
     requires parts { (blank.parts ≡ L.parts) × (blank.parts ≡ 2 ^ 64 - 1) }
     ensures served { IfOk result (λ desk. ServesLobby C.tells core clock.old desk.core clock.new) }
     ensures refused { IfErr result (λ r. (r.desk.core ≡ core) × (r.listener ≡ listener)) }
-    ensures fault { IfErr result (λ r. (r.fault ≡ serve_fault.Memory) ⊎ (r.fault ≡ serve_fault.Threads)) }
+    ensures fault { IfErr result (λ r. (r.fault ≡ serve_fault.Memory)
+        ⊎ (r.fault ≡ serve_fault.Threads)) }
     ensures untouched { OnErr result (clock.new ≡ clock.old) }
     ensures honest { IfOk result (λ d. K.is_honest d.core.keeper → K.is_honest core.keeper) }
 {
@@ -318,7 +330,8 @@ where
     C: Clock,
     ensures served { IfOk result (λ d. ServesLobby C.tells desk.core clock.old d.core clock.new) }
     ensures refused { IfErr result (λ r. (r.desk.core ≡ desk.core) × (r.listener ≡ listener)) }
-    ensures fault { IfErr result (λ r. (r.fault ≡ serve_fault.Memory) ⊎ (r.fault ≡ serve_fault.Threads)) }
+    ensures fault { IfErr result (λ r. (r.fault ≡ serve_fault.Memory)
+        ⊎ (r.fault ≡ serve_fault.Threads)) }
     ensures untouched { OnErr result (clock.new ≡ clock.old) }
     ensures honest { IfOk result (λ d. K.is_honest d.core.keeper → K.is_honest desk.core.keeper) }
 {

@@ -22,7 +22,8 @@ impl<L: Ledger> Parts<L> {
 
     /// Takes one. None if none is left.
     pub fn take(&mut self) -> Option<Share<L>>
-        ensures { MatchOption result (self.old.left ≡ 0) (λ share. (share.parts ≡ 1) × (share.amount ≡ 0) × (self.old.left ≡ self.new.left + 1)) }
+        ensures { MatchOption result (self.old.left ≡ 0) (λ share. (share.parts ≡ 1)
+            × (share.amount ≡ 0) × (self.old.left ≡ self.new.left + 1)) }
     {
         if self.left == 0 {
             return None;

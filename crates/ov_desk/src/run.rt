@@ -40,7 +40,8 @@ fn turn_once_seen<R: Wait, K: Keeper + Drop, D: Draws + Drop>(
     moment: u64,
     serial: u64,
 ) -> bool
-    ensures goes { GoesOn moment desk.old.core desk.old.lanes.items desk.new.core desk.new.lanes.items }
+    ensures goes { GoesOn moment desk.old.core desk.old.lanes.items desk.new.core
+        desk.new.lanes.items }
     ensures rings { StayAs SameLane desk.old.lanes.items desk.new.lanes.items }
     ensures taken { TakesNoted serial desk.old.lanes.items result desk.new.lanes.items }
     ensures honest { K.is_honest desk.new.core.keeper → K.is_honest desk.old.core.keeper }
@@ -73,7 +74,9 @@ where
     S: Source + Send + Drop + 's,
     W: Sink + Send + Drop + 's,
     requires seats { AreSeats hall.old.keeps hall.old.desk.lanes.items hall.old.workers.items }
-    ensures goes { (moment : ℕ) → GoesOn moment hall.old.desk.core hall.old.desk.lanes.items hall.new.desk.core hall.new.desk.lanes.items }
+    ensures goes { (moment : ℕ)
+        → GoesOn moment hall.old.desk.core hall.old.desk.lanes.items hall.new.desk.core
+        hall.new.desk.lanes.items }
     ensures seats { AreSeats hall.new.keeps hall.new.desk.lanes.items hall.new.workers.items }
     ensures honest { K.is_honest hall.new.desk.core.keeper → K.is_honest hall.old.desk.core.keeper }
 {
@@ -109,8 +112,11 @@ where
     S: Source + Send + Drop + 's,
     W: Sink + Send + Drop + 's,
     requires seats { AreSeats hall.old.keeps hall.old.desk.lanes.items hall.old.workers.items }
-    ensures goes { GoesOn moment hall.old.desk.core hall.old.desk.lanes.items hall.new.desk.core hall.new.desk.lanes.items }
-    ensures kept { KeepsHall (note ∷ []) hall.old.keeps hall.old.accepted hall.old.desk.lanes.items hall.old.workers hall.new.keeps hall.new.accepted hall.new.desk.lanes.items hall.new.workers }
+    ensures goes { GoesOn moment hall.old.desk.core hall.old.desk.lanes.items hall.new.desk.core
+        hall.new.desk.lanes.items }
+    ensures kept { KeepsHall (note ∷ []) hall.old.keeps hall.old.accepted hall.old.desk.lanes.items
+        hall.old.workers hall.new.keeps hall.new.accepted hall.new.desk.lanes.items
+        hall.new.workers }
     ensures seats { AreSeats hall.new.keeps hall.new.desk.lanes.items hall.new.workers.items }
     ensures honest { K.is_honest hall.new.desk.core.keeper → K.is_honest hall.old.desk.core.keeper }
 {
@@ -140,8 +146,11 @@ where
     S: Source + Send + Drop + 's,
     W: Sink + Send + Drop + 's,
     requires seats { AreSeats hall.old.keeps hall.old.desk.lanes.items hall.old.workers.items }
-    ensures goes { GoesOn moment hall.old.desk.core hall.old.desk.lanes.items hall.new.desk.core hall.new.desk.lanes.items }
-    ensures kept { KeepsHall (option_to_list note) hall.old.keeps hall.old.accepted hall.old.desk.lanes.items hall.old.workers hall.new.keeps hall.new.accepted hall.new.desk.lanes.items hall.new.workers }
+    ensures goes { GoesOn moment hall.old.desk.core hall.old.desk.lanes.items hall.new.desk.core
+        hall.new.desk.lanes.items }
+    ensures kept { KeepsHall (option_to_list note) hall.old.keeps hall.old.accepted
+        hall.old.desk.lanes.items hall.old.workers hall.new.keeps hall.new.accepted
+        hall.new.desk.lanes.items hall.new.workers }
     ensures seats { AreSeats hall.new.keeps hall.new.desk.lanes.items hall.new.workers.items }
     ensures honest { K.is_honest hall.new.desk.core.keeper → K.is_honest hall.old.desk.core.keeper }
 {
@@ -179,10 +188,13 @@ where
     W: Sink + Send + Drop + 's,
     C: Clock,
     requires seats { AreSeats hall.old.keeps hall.old.desk.lanes.items hall.old.workers.items }
-    ensures runs { RunsBy C.tells hall.old.desk.core hall.old.desk.lanes.items clock.old hall.new.desk.core hall.new.desk.lanes.items clock.new }
+    ensures runs { RunsBy C.tells hall.old.desk.core hall.old.desk.lanes.items clock.old
+        hall.new.desk.core hall.new.desk.lanes.items clock.new }
     ensures over { AreOver hall.new.desk.lanes.items }
     ensures kept { (notes : List ℕ) × (taken.new.serials ≡ taken.old.serials ++ notes)
-        × KeepsHall notes hall.old.keeps hall.old.accepted hall.old.desk.lanes.items hall.old.workers hall.new.keeps hall.new.accepted hall.new.desk.lanes.items hall.new.workers }
+        × KeepsHall notes hall.old.keeps hall.old.accepted hall.old.desk.lanes.items
+        hall.old.workers hall.new.keeps hall.new.accepted hall.new.desk.lanes.items
+        hall.new.workers }
     ensures seats { AreSeats hall.new.keeps hall.new.desk.lanes.items hall.new.workers.items }
     ensures honest { K.is_honest hall.new.desk.core.keeper → K.is_honest hall.old.desk.core.keeper }
 {

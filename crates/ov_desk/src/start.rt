@@ -98,7 +98,8 @@ where
     W: Sink + Send + Drop + 's,
     requires serials { first + vec_len bells.now < 2 ^ 64 }
     requires parts { vec_len bells.now ≤ parts.old.left }
-    ensures started { IfOk result (λ s. AreStarted true first s.items × (deque_len s ≡ vec_len bells.now)) }
+    ensures started { IfOk result (λ s. AreStarted true first s.items
+        × (deque_len s ≡ vec_len bells.now)) }
     ensures kinds { IfErr result (λ f. f ≢ fault.TooMany) }
 {
     let mut started = VecDeque::with_capacity(common.alloc, bells.len())?;

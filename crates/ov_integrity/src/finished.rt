@@ -43,7 +43,9 @@ fn finish_stage(
     requires linked { AreLinksOf schema.now stage.before links.now }
     requires indexed { AreIndexesOf schema.now stage.before indexes.now }
     requires suits { Suits schema.now stage.now }
-    ensures { IfOk result (IsFinished (committed schema.now stage.entry.before version stage.entry.now) stage.entry.before) }
+    ensures { IfOk result
+        (IsFinished (committed schema.now stage.entry.before version stage.entry.now)
+        stage.entry.before) }
 {
     if misses(alloc, schema, links, &stage)? {
         return Ok(Finished::Refused(OpError::ReferentialIntegrity));
@@ -78,7 +80,8 @@ pub fn finish(
     requires linked { AreLinksOf schema.now stage.before links.now }
     requires indexed { AreIndexesOf schema.now stage.before indexes.now }
     requires suits { Suits schema.now stage.now }
-    ensures { IsFinished (committed schema.now stage.entry.before version stage.entry.now) stage.entry.before result }
+    ensures { IsFinished (committed schema.now stage.entry.before version stage.entry.now)
+        stage.entry.before result }
 {
     match finish_stage(alloc, schema, version, links, indexes, stage) {
         Ok(finished) => finished,

@@ -58,7 +58,8 @@ fn is_overfull(
 
 /// The names of the tables with a changed row, each once.
 fn touched(alloc: Global, changes: &Delta) -> Result<Vec<Text>, AllocError>
-    ensures { IfOk result (λ names. (test : List ℕ → Bool) → list_any test names.items ≡ list_any (λ c. test c.0.0) (entries changes.now)) }
+    ensures { IfOk result (λ names. (test : List ℕ → Bool) → list_any test names.items
+        ≡ list_any (λ c. test c.0.0) (entries changes.now)) }
 {
     let mut names = Vec::new(alloc);
     for (key, _change) in changes.map() {
@@ -72,7 +73,8 @@ fn touched(alloc: Global, changes: &Delta) -> Result<Vec<Text>, AllocError>
 /// Whether a table has too many rows. None had before the transaction, so it is a table with a changed row.
 fn are_too_many(alloc: Global, schema: &Schema, stage: &Stage<'_>) -> Result<bool, AllocError>
     requires whole { is_whole schema.now stage.now.before ≡ true }
-    ensures { IfOk result (λ many. many ≡ list_any (has_too_many stage.now.now) (entries schema.now.tables)) }
+    ensures { IfOk result (λ many. many
+        ≡ list_any (has_too_many stage.now.now) (entries schema.now.tables)) }
 {
     for name in touched(alloc, stage.changes())? {
         if is_overfull(alloc, schema, stage, name.as_str())? {

@@ -21,7 +21,8 @@ fn row_misses(
     key: &RowKey,
     row: &Row,
 ) -> Result<bool, AllocError>
-    ensures { IfOk result (λ misses. misses ≡ list_any (is_missing stage.now.now) (row_references schema.now (key.now, row.now))) }
+    ensures { IfOk result (λ misses. misses
+        ≡ list_any (is_missing stage.now.now) (row_references schema.now (key.now, row.now))) }
 {
     for target in targets_of(alloc, schema, key.table(), &row.columns)? {
         if target.is_strong && !stage.contains(&target.key) {
@@ -64,7 +65,8 @@ fn change_misses(
     key: &RowKey,
     change: &Option<Row>,
 ) -> Result<bool, AllocError>
-    ensures { IfOk result (λ misses. misses ≡ misses_by schema.now stage.now.now links.now.strong changes.now (key.now, change.now)) }
+    ensures { IfOk result (λ misses. misses
+        ≡ misses_by schema.now stage.now.now links.now.strong changes.now (key.now, change.now)) }
 {
     match change {
         Some(row) => row_misses(alloc, schema, stage, key, row),
@@ -82,7 +84,8 @@ pub(crate) fn misses(
 ) -> Result<bool, AllocError>
     requires whole { is_whole schema.now stage.now.before ≡ true }
     requires linked { AreLinksOf schema.now stage.now.before links.now }
-    ensures { IfOk result (λ misses. misses ≡ list_any (is_missing stage.now.now) (references schema.now stage.now.now)) }
+    ensures { IfOk result (λ misses. misses
+        ≡ list_any (is_missing stage.now.now) (references schema.now stage.now.now)) }
 {
     let changes = stage.changes();
     for (key, change) in changes.map() {

@@ -1,4 +1,5 @@
-ghost use Rattle.std.specs.Prelude.{◌≡◌, ◌++◌, not, filter, Some, option_copied, true, false, IfOk, OnOk};
+ghost use Rattle.std.specs.Prelude.{◌≡◌, ◌++◌, not, filter, Some, option_copied, true, false, IfOk};
+ghost use Rattle.std.specs.Prelude.{OnOk};
 ghost use Rattle.std.specs.FinMap.{entries, get, keys};
 ghost use Rattle.std.specs.List.{list_any};
 ghost use Rattle.ov_atoms.specs.Views.{atom_view, atoms_view, pair_view, pairs_view};
@@ -28,7 +29,10 @@ fn stays(
     refers: Option<&Reference>,
     atom: &Atom,
 ) -> Result<bool, AllocError>
-    ensures { IfOk result (λ stays. stays ≡ not (is_some_and (is_dangling stage.now.now) (target_of (option_copied refers.entry) (atom_view atom.now)))) }
+    ensures { IfOk result (λ stays. stays
+        ≡ not
+        (is_some_and (is_dangling stage.now.now)
+        (target_of (option_copied refers.entry) (atom_view atom.now)))) }
 {
     let Some(refers) = refers else {
         return Ok(true);
@@ -49,7 +53,8 @@ fn pruned_atoms(
     column: &Column,
     atoms: &[Atom],
 ) -> Result<Vec<Atom>, AllocError>
-    ensures { IfOk result (λ left. atoms_view left.items ≡ filter (committed.stays stage.now.now column.now.type_of.key) (atoms_view atoms.now)) }
+    ensures { IfOk result (λ left. atoms_view left.items
+        ≡ filter (committed.stays stage.now.now column.now.type_of.key) (atoms_view atoms.now)) }
 {
     let mut left = Vec::new(alloc);
     for atom in atoms {
@@ -67,7 +72,8 @@ fn pair_stays(
     column: &Column,
     pair: &(Atom, Atom),
 ) -> Result<bool, AllocError>
-    ensures { IfOk result (λ it_stays. it_stays ≡ committed.pair_stays stage.now.now column.now.type_of (pair_view pair.now)) }
+    ensures { IfOk result (λ it_stays. it_stays
+        ≡ committed.pair_stays stage.now.now column.now.type_of (pair_view pair.now)) }
 {
     Ok(
         stays(alloc, stage, column.key_refers(), &pair.0)?
@@ -82,7 +88,8 @@ fn pruned_pairs(
     column: &Column,
     pairs: &[(Atom, Atom)],
 ) -> Result<Vec<(Atom, Atom)>, AllocError>
-    ensures { IfOk result (λ left. pairs_view left.items ≡ filter (committed.pair_stays stage.now.now column.now.type_of) (pairs_view pairs.now)) }
+    ensures { IfOk result (λ left. pairs_view left.items
+        ≡ filter (committed.pair_stays stage.now.now column.now.type_of) (pairs_view pairs.now)) }
 {
     let mut left = Vec::new(alloc);
     for pair in pairs {
@@ -100,7 +107,8 @@ fn pruned_datum(
     column: &Column,
     datum: &Datum,
 ) -> Result<Datum, AllocError>
-    ensures { IfOk result (λ left. left ≡ committed.pruned_datum stage.now.now column.now.type_of datum.now) }
+    ensures { IfOk result (λ left. left
+        ≡ committed.pruned_datum stage.now.now column.now.type_of datum.now) }
 {
     if let Some(atoms) = datum.atoms() {
         return Datum::of_atoms(pruned_atoms(alloc, stage, column, atoms)?);
@@ -124,7 +132,8 @@ fn pruned_columns(
     table: &Table,
     columns: &Columns,
 ) -> Result<Columns, AllocError>
-    ensures { IfOk result (λ left. left ≡ committed.pruned_columns stage.now.now (Some table.now) columns.now) }
+    ensures { IfOk result (λ left. left
+        ≡ committed.pruned_columns stage.now.now (Some table.now) columns.now) }
 {
     let mut left = columns.copy(alloc)?;
     for (name, datum) in columns.names().iter().zip(columns.values()) {
@@ -166,7 +175,8 @@ fn dangles(
     key: &RowKey,
     row: &Row,
 ) -> Result<bool, AllocError>
-    ensures { IfOk result (λ it_dangles. it_dangles ≡ committed.dangles schema.now stage.now.now (key.now, row.now)) }
+    ensures { IfOk result (λ it_dangles. it_dangles
+        ≡ committed.dangles schema.now stage.now.now (key.now, row.now)) }
 {
     for target in targets_of(alloc, schema, key.table(), &row.columns)? {
         if !target.is_strong && !stage.contains(&target.key) {
@@ -180,7 +190,8 @@ fn dangles(
 /// 4.1.2).
 fn have_sixteen_bytes(stage: &Stage<'_>, key: &RowKey, version: Uuid)
     ensures version { is_uuid version ≡ true }
-    ensures former { (row : database.Row) → get stage.now.before key.now ≡ Some row → is_uuid row.version ≡ true }
+    ensures former { (row : database.Row) → get stage.now.before key.now ≡ Some row
+        → is_uuid row.version ≡ true }
 {
     has_sixteen_bytes(&version);
     if let Some(row) = stage.before().row(key.table(), key.id()) {
@@ -198,9 +209,11 @@ fn prune_row(
     key: RowKey,
 ) -> Result<bool, AllocError>
     ensures before { stage.new.before ≡ stage.old.before }
-    ensures now { OnOk result (stage.new.now ≡ pruned_at schema.now stage.old.before version key stage.old.now) }
+    ensures now { OnOk result (stage.new.now
+        ≡ pruned_at schema.now stage.old.before version key stage.old.now) }
     ensures short { IfOk result (λ short. short ≡ is_short_at schema.now key stage.new.now) }
-    ensures suits { IfOk result (λ short. short ≡ false → Suits schema.now stage.old.now → Suits schema.now stage.new.now) }
+    ensures suits { IfOk result (λ short. short ≡ false → Suits schema.now stage.old.now
+        → Suits schema.now stage.new.now) }
 {
     let Some(table) = schema.table(key.table()) else {
         return Ok(false);
@@ -239,7 +252,9 @@ fn push_candidates(
     change: &Option<Row>,
     found: &mut Vec<RowKey>,
 ) -> Result<(), AllocError>
-    ensures { OnOk result (found.new.items ≡ found.old.items ++ may_dangle_by schema.now stage.now.now links.now.weak (key.now, change.now)) }
+    ensures { OnOk result (found.new.items
+        ≡ found.old.items ++ may_dangle_by schema.now stage.now.now links.now.weak
+        (key.now, change.now)) }
 {
     if let Some(row) = change {
         if dangles(alloc, schema, stage, key, row)? {
@@ -284,8 +299,10 @@ pub(crate) fn prune(
     requires whole { is_whole schema.now stage.old.before ≡ true }
     requires linked { AreLinksOf schema.now stage.old.before links.now }
     requires suits { Suits schema.now stage.old.now }
-    ensures now { OnOk result (stage.new ≡ record stage.old { now = pruned schema.now stage.old.before version stage.old.now }) }
-    ensures short { IfOk result (λ short. short ≡ list_any (limits.is_short schema.now) (entries stage.new.now)) }
+    ensures now { OnOk result (stage.new
+        ≡ record stage.old { now = pruned schema.now stage.old.before version stage.old.now }) }
+    ensures short { IfOk result (λ short. short
+        ≡ list_any (limits.is_short schema.now) (entries stage.new.now)) }
     ensures suits { IfOk result (λ short. short ≡ false → Suits schema.now stage.new.now) }
 {
     let mut short = false;

@@ -3,7 +3,8 @@ ghost use Rattle.std.specs.FinMap.{keys};
 ghost use Rattle.std.specs.List.{list_any};
 ghost use Rattle.ov_refs.specs.Linking.{AreLinksOf};
 ghost use Rattle.ov_integrity.specs.Changes.{AreChanges};
-ghost use Rattle.ov_integrity.specs.Linked.{AreLinked, some_holds, is_unchanged_beside, is_there_beside};
+ghost use Rattle.ov_integrity.specs.Linked.{AreLinked, some_holds, is_unchanged_beside};
+ghost use Rattle.ov_integrity.specs.Linked.{is_there_beside};
 ghost use Rattle.ov_integrity.specs.Supporting.{MayLack, strong_keys};
 ghost use Rattle.ov_specs.specs.integrity.Committed.{is_whole};
 ghost use Rattle.ov_specs.specs.integrity.Kept.{is_in_root_table, is_supported, kept};
@@ -33,7 +34,8 @@ fn has_unchanged_beside(
     stage: &Stage<'_>,
     key: &RowKey,
 ) -> bool
-    ensures { result ≡ list_any (is_unchanged_beside stage.now.now changes.now.keys key.now) (keys holders.now) }
+    ensures { result
+        ≡ list_any (is_unchanged_beside stage.now.now changes.now.keys key.now) (keys holders.now) }
 {
     for from in holders.iter() {
         if from != key && !changes.keys().contains(from) && stage.contains(from) {
@@ -57,7 +59,9 @@ fn has_beside(holders: &KeySet, stage: &Stage<'_>, key: &RowKey) -> bool
 
 /// Whether another existing row, unchanged since before the transaction, refers strongly to the one of this key.
 fn is_held_by_unchanged(links: &Links, changes: &Changes, stage: &Stage<'_>, key: &RowKey) -> bool
-    ensures { result ≡ some_holds links.now.strong key.now (is_unchanged_beside stage.now.now changes.now.keys key.now) }
+    ensures { result
+        ≡ some_holds links.now.strong key.now
+        (is_unchanged_beside stage.now.now changes.now.keys key.now) }
 {
     match links.strong().of(key) {
         Some(holders) => has_unchanged_beside(holders, changes, stage, key),
@@ -67,7 +71,8 @@ fn is_held_by_unchanged(links: &Links, changes: &Changes, stage: &Stage<'_>, key
 
 /// Whether another existing row, which the transaction has changed, refers strongly to the one of this key.
 fn is_held_by_changed(changes: &Changes, stage: &Stage<'_>, key: &RowKey) -> bool
-    ensures { result ≡ some_holds changes.now.strong key.now (is_there_beside stage.now.now key.now) }
+    ensures { result
+        ≡ some_holds changes.now.strong key.now (is_there_beside stage.now.now key.now) }
 {
     match changes.strong().of(key) {
         Some(holders) => has_beside(holders, stage, key),
@@ -153,7 +158,9 @@ fn drop_one(
     ensures kept { OnOk result (kept schema.now stage.new.now ≡ kept schema.now stage.old.now) }
     ensures linked { OnOk result (AreLinked schema.now stage.new.now links.now.strong changes.now) }
     ensures lacking { OnOk result (MayLack schema.now stage.new.now work.new.items) }
-    ensures smaller { OnOk result (length work.new.items + length (references schema.now stage.new.now) ≤ length work.old.items + length (references schema.now stage.old.now)) }
+    ensures smaller { OnOk result
+        (length work.new.items + length (references schema.now stage.new.now)
+        ≤ length work.old.items + length (references schema.now stage.old.now)) }
 {
     let Some(row) = stage.row(&key) else {
         return Ok(());

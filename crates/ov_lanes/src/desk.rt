@@ -48,9 +48,11 @@ impl<K: Keeper + Drop, D: Draws + Drop> Desk<K, D> {
     /// last one if that is later; an end closes the session. Then moves what waits for all sessions, as `flush` does. Returns
     /// false if no item was seen, or if the session has no place; then nothing is changed. Takes no lock, and waits for nobody.
     pub fn turn(&mut self, alloc: Global, moment: u64, serial: u64) -> bool
-        ensures goes { GoesOn moment self.old.core self.old.lanes.items self.new.core self.new.lanes.items }
+        ensures goes { GoesOn moment self.old.core self.old.lanes.items self.new.core
+            self.new.lanes.items }
         ensures rings { StayAs SameLane self.old.lanes.items self.new.lanes.items }
-        ensures turns { Turns serial self.old.core self.old.lanes.items result self.new.core self.new.lanes.items }
+        ensures turns { Turns serial self.old.core self.old.lanes.items result self.new.core
+            self.new.lanes.items }
         ensures honest { K.is_honest self.new.core.keeper → K.is_honest self.old.core.keeper }
     {
         let Some(at) = place_of(&self.lanes, serial) else {
@@ -66,7 +68,8 @@ impl<K: Keeper + Drop, D: Draws + Drop> Desk<K, D> {
     /// Moves what waits for all sessions: frames into their rings, and after the last frame of a closed session the end mark.
     /// A session whose ring has no room for a frame is closed as `Overrun`, and what waits for it is dropped.
     pub fn flush(&mut self)
-        ensures goes { (moment : ℕ) → GoesOn moment self.old.core self.old.lanes.items self.new.core self.new.lanes.items }
+        ensures goes { (moment : ℕ)
+            → GoesOn moment self.old.core self.old.lanes.items self.new.core self.new.lanes.items }
         ensures rings { StayAs PutsAlone self.old.lanes.items self.new.lanes.items }
         ensures flushed { AreFlushed self.new.core self.new.lanes.items }
         ensures honest { K.is_honest self.new.core.keeper → K.is_honest self.old.core.keeper }

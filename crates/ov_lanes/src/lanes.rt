@@ -1,7 +1,11 @@
-ghost use Rattle.std.specs.Prelude.{◌≡◌, ◌≢◌, ◌+◌, ◌<◌, ◌≤◌, ℕ, None, vec_len, slice_index_or, true, false, MatchBool, MatchOption};
+ghost use Rattle.std.specs.Prelude.{◌≡◌, ◌≢◌, ◌+◌, ◌<◌, ◌≤◌, ℕ, None, vec_len, slice_index_or};
+ghost use Rattle.std.specs.Prelude.{true, false, MatchBool, MatchOption};
 ghost use Rattle.ov_core.specs.Following.{CoreState};
 ghost use Rattle.ov_lanes.specs.Since.{Since};
-ghost use Rattle.ov_lanes.specs.Lanes.{AreOver, AreFlushed, AreFlushedBelow, AreTaken, GivesUpIf, GoesOn, IsAt, LookAll, LooksAt, MovesPlace, PlaceFits, PutsAlone, SameLane, StayAs, StaysAs, TakesAt, TakesPlace, unmarked};
+ghost use Rattle.ov_lanes.specs.Lanes.{AreOver, AreFlushed, AreFlushedBelow, AreTaken, GivesUpIf};
+ghost use Rattle.ov_lanes.specs.Lanes.{GoesOn, IsAt, LookAll, LooksAt, MovesPlace, PlaceFits};
+ghost use Rattle.ov_lanes.specs.Lanes.{PutsAlone, SameLane, StayAs, StaysAs, TakesAt, TakesPlace};
+ghost use Rattle.ov_lanes.specs.Lanes.{unmarked};
 ghost use Rattle.ov_lanes.specs.declared.lane.Lane.{Lane as SpecLane};
 
 use crate::lane::Lane;
@@ -16,7 +20,9 @@ fn flush_place<K: Keeper + Drop, D: Draws + Drop>(
     core: &mut Core<K, D>,
     place: &mut Option<Lane>,
 ) -> bool
-    ensures moves { (at : ℕ) (first : CoreState K D) (since : Since first core.old) → PlaceFits since place.old → MovesPlace at since place.old core.new place.new }
+    ensures moves { (at : ℕ) (first : CoreState K D) (since : Since first core.old)
+        → PlaceFits since place.old
+        → MovesPlace at since place.old core.new place.new }
     ensures gives_up { GivesUpIf result core.old place.old core.new place.new }
     ensures rings { StaysAs PutsAlone place.old place.new }
     ensures honest { K.is_honest core.new.keeper → K.is_honest core.old.keeper }
@@ -36,8 +42,10 @@ fn flush_at<K: Keeper + Drop, D: Draws + Drop>(
     requires { at < vec_len lanes.old }
     ensures goes { (moment : ℕ) → GoesOn moment core.old lanes.old.items core.new lanes.new.items }
     ensures rings { StayAs PutsAlone lanes.old.items lanes.new.items }
-    ensures fewer { MatchBool result (unmarked lanes.new.items < unmarked lanes.old.items) (unmarked lanes.new.items ≤ unmarked lanes.old.items) }
-    ensures flushed { result ≡ false → AreFlushedBelow at core.old lanes.old.items → AreFlushedBelow (at + 1) core.new lanes.new.items }
+    ensures fewer { MatchBool result (unmarked lanes.new.items
+        < unmarked lanes.old.items) (unmarked lanes.new.items ≤ unmarked lanes.old.items) }
+    ensures flushed { result ≡ false → AreFlushedBelow at core.old lanes.old.items
+        → AreFlushedBelow (at + 1) core.new lanes.new.items }
     ensures honest { K.is_honest core.new.keeper → K.is_honest core.old.keeper }
 {
     let place = &mut lanes[at];
@@ -92,9 +100,12 @@ fn take_place<K: Keeper + Drop, D: Draws + Drop>(
     moment: u64,
     place: &mut Option<Lane>,
 ) -> bool
-    ensures moves { (first : CoreState K D) (since : Since first core.old) → PlaceFits since place.old → MovesPlace moment since place.old core.new place.new }
+    ensures moves { (first : CoreState K D) (since : Since first core.old)
+        → PlaceFits since place.old
+        → MovesPlace moment since place.old core.new place.new }
     ensures rings { StaysAs SameLane place.old place.new }
-    ensures taken { MatchBool result (TakesPlace place.old place.new) ((core.new ≡ core.old) × StaysAs LooksAt place.old place.new) }
+    ensures taken { MatchBool result (TakesPlace place.old place.new) ((core.new ≡ core.old)
+        × StaysAs LooksAt place.old place.new) }
     ensures honest { K.is_honest core.new.keeper → K.is_honest core.old.keeper }
 {
     match place {
@@ -114,7 +125,9 @@ pub(crate) fn take_at<K: Keeper + Drop, D: Draws + Drop>(
     requires { at < vec_len lanes.old }
     ensures goes { GoesOn moment core.old lanes.old.items core.new lanes.new.items }
     ensures rings { StayAs SameLane lanes.old.items lanes.new.items }
-    ensures taken { MatchBool result (TakesAt at lanes.old.items lanes.new.items) ((core.new ≡ core.old) × LookAll lanes.old.items lanes.new.items) }
+    ensures taken { MatchBool result (TakesAt at lanes.old.items lanes.new.items) ((core.new
+        ≡ core.old)
+        × LookAll lanes.old.items lanes.new.items) }
     ensures honest { K.is_honest core.new.keeper → K.is_honest core.old.keeper }
 {
     let place = &mut lanes[at];
@@ -125,7 +138,8 @@ pub(crate) fn take_at<K: Keeper + Drop, D: Draws + Drop>(
 pub fn place_of(lanes: &Vec<Option<Lane>>, serial: u64) -> Option<usize>
     ensures { MatchOption result
         ((at : ℕ) (l : SpecLane) → IsAt lanes.now.items at l → l.session.serial ≢ serial)
-        (λ at. (at < vec_len lanes.now) × ((l : SpecLane) × IsAt lanes.now.items at l × (l.session.serial ≡ serial))) }
+        (λ at. (at < vec_len lanes.now)
+        × ((l : SpecLane) × IsAt lanes.now.items at l × (l.session.serial ≡ serial))) }
 {
     for at in 0..lanes.len() {
         if let Some(lane) = &lanes[at] {
@@ -139,7 +153,8 @@ pub fn place_of(lanes: &Vec<Option<Lane>>, serial: u64) -> Option<usize>
 
 /// A place where no session is served, or None if all are taken.
 pub fn free_place(lanes: &Vec<Option<Lane>>) -> Option<usize>
-    ensures { MatchOption result (AreTaken lanes.now.items) (λ at. (at < vec_len lanes.now) × (slice_index_or lanes.now.items at None ≡ None)) }
+    ensures { MatchOption result (AreTaken lanes.now.items) (λ at. (at < vec_len lanes.now)
+        × (slice_index_or lanes.now.items at None ≡ None)) }
 {
     for at in 0..lanes.len() {
         if lanes[at].is_none() {

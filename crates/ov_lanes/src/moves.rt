@@ -1,4 +1,5 @@
-ghost use Rattle.std.specs.Prelude.{◌≡◌, ◌<◌, ◌≤◌, ◌++◌, ℕ, [], ◌∷◌, true, false, length, max, Some, unwrap_or, MatchBool};
+ghost use Rattle.std.specs.Prelude.{◌≡◌, ◌<◌, ◌≤◌, ◌++◌, ℕ, [], ◌∷◌, true, false, length, max};
+ghost use Rattle.std.specs.Prelude.{Some, unwrap_or, MatchBool};
 ghost use Rattle.rtrb.specs.Ring.{sent, received, SameProducer};
 ghost use Rattle.ov_order.specs.declared.items.Brought.{Brought as SpecBrought};
 ghost use Rattle.ov_order.specs.declared.items.Sent.TheVariants.{End};
@@ -10,7 +11,8 @@ ghost use Rattle.ov_core.specs.Following.{CoreState};
 ghost use Rattle.ov_history.specs.declared.event.Cause.TheVariants.{Memory};
 ghost use Rattle.ov_lanes.specs.Since.{Since};
 ghost use Rattle.ov_lanes.specs.Fitting.{Items, end_cause};
-ghost use Rattle.ov_lanes.specs.Lanes.{LaneFits, LaneFitsWith, Moves, Flushes, SameLane, LooksAt, GivesUpIf};
+ghost use Rattle.ov_lanes.specs.Lanes.{LaneFits, LaneFitsWith, Moves, Flushes, SameLane, LooksAt};
+ghost use Rattle.ov_lanes.specs.Lanes.{GivesUpIf};
 ghost use Rattle.ov_lanes.specs.Moving.{ClosesOnce, MovesFrames, GivesUp, TakesItem, SameInbound};
 ghost use Rattle.ov_core.specs.Stepping.{StepIs};
 ghost use Rattle.ov_history.specs.declared.event.Stepped.{Stepped as SpecStepped};
@@ -28,7 +30,8 @@ use std::alloc::Global;
 /// them, which is dropped: the last place is kept for the end mark.
 fn move_frames<K: Keeper + Drop, D: Draws + Drop>(core: &mut Core<K, D>, lane: &mut Lane) -> bool
     requires { lane.old.marked ≡ false }
-    ensures moves { MovesFrames lane.old.session.serial result core.old core.new (sent lane.old.outbound) (sent lane.new.outbound) }
+    ensures moves { MovesFrames lane.old.session.serial result core.old core.new
+        (sent lane.old.outbound) (sent lane.new.outbound) }
     ensures inbound { SameInbound lane.old lane.new }
     ensures cause { lane.new.cause ≡ lane.old.cause }
     ensures unmarked { lane.new.marked ≡ false }
@@ -49,7 +52,8 @@ fn move_frames<K: Keeper + Drop, D: Draws + Drop>(core: &mut Core<K, D>, lane: &
 
 /// Closes the session for the cause, if it is open.
 fn close<K: Keeper + Drop, D: Draws + Drop>(core: &mut Core<K, D>, lane: &mut Lane, cause: Cause)
-    ensures closes { ClosesOnce lane.old.session.serial (cause_view cause) core.old core.new lane.old.cause lane.new.cause }
+    ensures closes { ClosesOnce lane.old.session.serial (cause_view cause) core.old core.new
+        lane.old.cause lane.new.cause }
     ensures inbound { SameInbound lane.old lane.new }
     ensures outbound { lane.new.outbound ≡ lane.old.outbound }
     ensures marked { lane.new.marked ≡ lane.old.marked }
@@ -62,7 +66,8 @@ fn close<K: Keeper + Drop, D: Draws + Drop>(core: &mut Core<K, D>, lane: &mut La
 
 /// Closes the session, if it is open, because its ring has no room, and drops the frames that wait for it.
 fn give_up<K: Keeper + Drop, D: Draws + Drop>(core: &mut Core<K, D>, lane: &mut Lane)
-    ensures gives_up { GivesUp lane.old.session.serial core.old core.new lane.old.cause lane.new.cause }
+    ensures gives_up { GivesUp lane.old.session.serial core.old core.new lane.old.cause
+        lane.new.cause }
     ensures inbound { SameInbound lane.old lane.new }
     ensures outbound { lane.new.outbound ≡ lane.old.outbound }
     ensures marked { lane.new.marked ≡ lane.old.marked }
@@ -92,7 +97,10 @@ pub(crate) fn flush<K: Keeper + Drop, D: Draws + Drop>(
     core: &mut Core<K, D>,
     lane: &mut Lane,
 ) -> bool
-    ensures flushes { (at : ℕ) (first : CoreState K D) (since : Since first core.old) (items : Items) → LaneFitsWith since items lane.old → Flushes at since items lane.old core.new lane.new }
+    ensures flushes { (at : ℕ) (first : CoreState K D) (since : Since first core.old)
+        (items : Items)
+        → LaneFitsWith since items lane.old
+        → Flushes at since items lane.old core.new lane.new }
     ensures gives_up { GivesUpIf result core.old (Some lane.old) core.new (Some lane.new) }
     ensures inbound { SameInbound lane.old lane.new }
     ensures honest { K.is_honest core.new.keeper → K.is_honest core.old.keeper }
@@ -131,7 +139,9 @@ fn take_message<K: Keeper + Drop, D: Draws + Drop>(
     session: Session,
     message: Received,
 )
-    ensures takes { (answer : SpecStepped) × StepIs D.draws (max moment core.old.state.moment) (machine.Take session.serial message) core.old answer core.new }
+    ensures takes { (answer : SpecStepped)
+        × StepIs D.draws (max moment core.old.state.moment) (machine.Take session.serial message)
+        core.old answer core.new }
     ensures honest { K.is_honest core.new.keeper → K.is_honest core.old.keeper }
 {
     let _ = core.step(alloc, moment, Event::Take(session, message));
@@ -143,9 +153,11 @@ fn take_end<K: Keeper + Drop, D: Draws + Drop>(
     lane: &mut Lane,
     cause: ReadCause,
 )
-    ensures closes { ClosesOnce lane.old.session.serial (end_cause cause) core.old core.new lane.old.cause lane.new.cause }
+    ensures closes { ClosesOnce lane.old.session.serial (end_cause cause) core.old core.new
+        lane.old.cause lane.new.cause }
     ensures ended { lane.new.ended ≡ true }
-    ensures rings { (lane.new.outbound ≡ lane.old.outbound) × (lane.new.inbound ≡ lane.old.inbound) }
+    ensures rings { (lane.new.outbound ≡ lane.old.outbound)
+        × (lane.new.inbound ≡ lane.old.inbound) }
     ensures same { (lane.new.session ≡ lane.old.session) × (lane.new.marked ≡ lane.old.marked) }
     ensures honest { K.is_honest core.new.keeper → K.is_honest core.old.keeper }
 {
@@ -161,8 +173,10 @@ fn take_item<K: Keeper + Drop, D: Draws + Drop>(
     lane: &mut Lane,
     item: Brought<Received, ReadCause>,
 )
-    ensures takes { TakesItem D.draws moment item lane.old.session.serial core.old core.new lane.old.cause lane.new.cause lane.old.ended lane.new.ended }
-    ensures rings { (lane.new.outbound ≡ lane.old.outbound) × (lane.new.inbound ≡ lane.old.inbound) }
+    ensures takes { TakesItem D.draws moment item lane.old.session.serial core.old core.new
+        lane.old.cause lane.new.cause lane.old.ended lane.new.ended }
+    ensures rings { (lane.new.outbound ≡ lane.old.outbound)
+        × (lane.new.inbound ≡ lane.old.inbound) }
     ensures same { (lane.new.session ≡ lane.old.session) × (lane.new.marked ≡ lane.old.marked) }
     ensures honest { K.is_honest core.new.keeper → K.is_honest core.old.keeper }
 {
@@ -181,10 +195,12 @@ pub(crate) fn take<K: Keeper + Drop, D: Draws + Drop>(
     moment: u64,
     lane: &mut Lane,
 ) -> bool
-    ensures moves { (first : CoreState K D) (since : Since first core.old) → LaneFits since lane.old → Moves moment since lane.old core.new lane.new }
+    ensures moves { (first : CoreState K D) (since : Since first core.old) → LaneFits since lane.old
+        → Moves moment since lane.old core.new lane.new }
     ensures rings { SameLane lane.old lane.new }
     ensures taken { MatchBool result
-        ((item : SpecBrought Message SpecReadCause) × (received lane.new.inbound ≡ received lane.old.inbound ++ item ∷ []))
+        ((item : SpecBrought Message SpecReadCause)
+        × (received lane.new.inbound ≡ received lane.old.inbound ++ item ∷ []))
         ((core.new ≡ core.old) × LooksAt lane.old lane.new) }
     ensures honest { K.is_honest core.new.keeper → K.is_honest core.old.keeper }
 {

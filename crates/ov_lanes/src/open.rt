@@ -32,7 +32,9 @@ fn close_sessions<K: Keeper + Drop, D: Draws + Drop>(
     core: &mut Core<K, D>,
     sessions: VecDeque<Session>,
 )
-    ensures closes { (start : CoreState K D) → AreSessions start.state.next sessions.items → OpensAll start start.state.next (deque_len sessions) core.old → ClosesAgain start core.new }
+    ensures closes { (start : CoreState K D) → AreSessions start.state.next sessions.items
+        → OpensAll start start.state.next (deque_len sessions) core.old
+        → ClosesAgain start core.new }
     ensures honest { K.is_honest core.new.keeper → K.is_honest core.old.keeper }
 {
     let mut sessions = sessions;
@@ -48,8 +50,10 @@ pub fn open_sessions<K: Keeper + Drop, D: Draws + Drop>(
     alloc: Global,
     count: usize,
 ) -> Option<VecDeque<Session>>
-    ensures opened { IfSome result (λ sessions. OpensAll core.old core.old.state.next count core.new) }
-    ensures serials { IfSome result (λ sessions. AreSessions core.old.state.next sessions.items × (deque_len sessions ≡ count)) }
+    ensures opened { IfSome result
+        (λ sessions. OpensAll core.old core.old.state.next count core.new) }
+    ensures serials { IfSome result (λ sessions. AreSessions core.old.state.next sessions.items
+        × (deque_len sessions ≡ count)) }
     ensures refused { IfNone result (ClosesAgain core.old core.new) }
     ensures honest { K.is_honest core.new.keeper → K.is_honest core.old.keeper }
 {

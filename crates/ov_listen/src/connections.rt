@@ -34,10 +34,16 @@ where
     K: Keeper + Drop,
     D: Draws + Drop,
     C: Clock,
-    ensures served { IfOk result (λ served. ServesConnections C.tells core clock.old streams.entry.now.items served.desk.core clock.new served.ends.items) }
-    ensures refused { IfErr result (λ ended. RefusesConnections core clock.old (vec_len streams.entry.now) ended.ending ended.core clock.new) }
-    ensures honest { IfOk result (λ served. K.is_honest served.desk.core.keeper → K.is_honest core.keeper) }
-    ensures honest_refused { IfErr result (λ ended. K.is_honest ended.core.keeper → K.is_honest core.keeper) }
+    ensures served { IfOk result
+        (λ served. ServesConnections C.tells core clock.old streams.entry.now.items served.desk.core
+        clock.new served.ends.items) }
+    ensures refused { IfErr result
+        (λ ended. RefusesConnections core clock.old (vec_len streams.entry.now) ended.ending
+        ended.core clock.new) }
+    ensures honest { IfOk result (λ served. K.is_honest served.desk.core.keeper
+        → K.is_honest core.keeper) }
+    ensures honest_refused { IfErr result (λ ended. K.is_honest ended.core.keeper
+        → K.is_honest core.keeper) }
 {
     let links = match links_of(alloc, streams) {
         Ok(links) => links,

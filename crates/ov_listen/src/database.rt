@@ -73,7 +73,8 @@ where
     S: Source,
     W: Sink,
     C: Clock,
-    ensures ends { EndsMemory ⟦<VolatileKeeper as Keeper>⟧ D.draws C.tells service (state_of S.Source W.Sink pipes.old) result (state_of S.Source W.Sink pipes.new) }
+    ensures ends { EndsMemory ⟦<VolatileKeeper as Keeper>⟧ D.draws C.tells service
+        (state_of S.Source W.Sink pipes.old) result (state_of S.Source W.Sink pipes.new) }
     ensures honest { (keeper : _) → ⟦<VolatileKeeper as Keeper>⟧.is_honest keeper }
 {
     let Service {
@@ -110,9 +111,13 @@ where
     S: Source,
     W: Sink,
     C: Clock,
-    ensures memory { IfNone path (IsInMemory result (λ ended. EndsMemory ⟦<VolatileKeeper as Keeper>⟧ D.draws C.tells service
+    ensures memory { IfNone path
+        (IsInMemory result (λ ended. EndsMemory ⟦<VolatileKeeper as Keeper>⟧ D.draws C.tells service
         (state_of S.Source W.Sink pipes.old) ended (state_of S.Source W.Sink pipes.new))) }
-    ensures file { IfSome path (λ _. IsInFile result (λ ended. EndsFile ⟦<Store<FileStore<FileFrom<T>>> as Keeper>⟧ D.draws C.tells (image_at T.Start) service
+    ensures file { IfSome path
+        (λ _. IsInFile result
+        (λ ended. EndsFile ⟦<Store<FileStore<FileFrom<T>>> as Keeper>⟧ D.draws C.tells
+        (image_at T.Start) service
         (state_of S.Source W.Sink pipes.old) ended (state_of S.Source W.Sink pipes.new))) }
 {
     match path {

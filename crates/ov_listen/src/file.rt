@@ -45,7 +45,9 @@ where
     S: Source,
     W: Sink,
     C: Clock,
-    ensures { EndsStore K.Keeper D.draws C.tells place schema draws store (state_of S.Source W.Sink pipes.old) result.0 result.1 (state_of S.Source W.Sink pipes.new) }
+    ensures { EndsStore K.Keeper D.draws C.tells place schema draws store
+        (state_of S.Source W.Sink pipes.old) result.0 result.1
+        (state_of S.Source W.Sink pipes.new) }
 {
     let keeper = match store {
         Ok(keeper) => keeper,
@@ -82,7 +84,9 @@ where
     S: Source,
     W: Sink,
     C: Clock,
-    ensures { EndsFile ⟦<Store<FileStore<FileFrom<T>>> as Keeper>⟧ D.draws C.tells (image_at T.Start) service (state_of S.Source W.Sink pipes.old) result (state_of S.Source W.Sink pipes.new) }
+    ensures { EndsFile ⟦<Store<FileStore<FileFrom<T>>> as Keeper>⟧ D.draws C.tells
+        (image_at T.Start) service (state_of S.Source W.Sink pipes.old) result
+        (state_of S.Source W.Sink pipes.new) }
 {
     let Service {
         schema,

@@ -52,9 +52,12 @@ where
     S: Source,
     W: Sink,
     C: Clock,
-    ensures served { IfOk result (λ ended. ServesPlace K.Keeper D.draws C.tells place keeper schema draws
-        (state_of S.Source W.Sink pipes.old) ended.ending ended.core (state_of S.Source W.Sink pipes.new)) }
-    ensures refused { IfErr result (λ refused. RefusesCore K.Keeper D.draws keeper schema draws refused) }
+    ensures served { IfOk result
+        (λ ended. ServesPlace K.Keeper D.draws C.tells place keeper schema draws
+        (state_of S.Source W.Sink pipes.old) ended.ending ended.core
+        (state_of S.Source W.Sink pipes.new)) }
+    ensures refused { IfErr result
+        (λ refused. RefusesCore K.Keeper D.draws keeper schema draws refused) }
     ensures untouched { OnErr result (pipes.new ≡ pipes.old) }
 {
     match Core::open(alloc, keeper, schema, draws) {

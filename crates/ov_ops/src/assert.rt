@@ -18,7 +18,10 @@ pub(crate) fn assert_owner<O: Owns>(
     ctx: &OpCtx<'_, '_, '_, '_, O>,
     operation: &Value,
 ) -> OpOutcome
-    ensures { (before rows : Database) → IsOutcome (spec.assert_outcome (context_of O.owned ctx.now before) rows (view operation.now)) result rows }
+    ensures { (before rows : Database)
+        → IsOutcome
+        (spec.assert_outcome (context_of O.owned ctx.now before) rows (view operation.now))
+        result rows }
 {
     match text_at(operation, "lock") {
         Some(name) if is_id(name) => {

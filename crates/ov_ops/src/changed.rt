@@ -14,7 +14,11 @@ pub(crate) fn put_rows<O: Owns>(
     ctx: &OpCtx<'_, '_, '_, '_, O>,
     changed: Vec<(RowKey, Columns)>,
 ) -> Result<(), AllocError>
-    ensures rows { OnOk result (stage.new ≡ record stage.old { now = spec.put_rows (context_of O.owned ctx.now stage.old.before) changed.items stage.old.now }) }
+    ensures rows { OnOk result (stage.new
+        ≡ record stage.old {
+          now = spec.put_rows (context_of O.owned ctx.now stage.old.before) changed.items
+              stage.old.now;
+        }) }
     ensures frame { stage.new.before ≡ stage.old.before }
 {
     for (key, columns) in changed {

@@ -11,7 +11,8 @@ use std::alloc::Global;
 
 /// A text for a log; this server has no such log (RFC 7047, 5.2.9).
 pub(crate) fn comment(alloc: Global, operation: &Value) -> OpOutcome
-    ensures { (rows : Database) → IsOutcome (spec.comment_outcome rows (view operation.now)) result rows }
+    ensures { (rows : Database)
+        → IsOutcome (spec.comment_outcome rows (view operation.now)) result rows }
 {
     match text_at(operation, "comment") {
         Some(_text) => OpOutcome::Done(empty_result(alloc)),

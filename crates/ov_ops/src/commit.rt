@@ -11,7 +11,8 @@ use std::alloc::Global;
 
 /// `durable` asks for what every commit does here (RFC 7047, 5.2.7).
 pub(crate) fn commit(alloc: Global, operation: &Value) -> OpOutcome
-    ensures { (rows : Database) → IsOutcome (spec.commit_outcome rows (view operation.now)) result rows }
+    ensures { (rows : Database)
+        → IsOutcome (spec.commit_outcome rows (view operation.now)) result rows }
 {
     match operation.get("durable").and_then(Value::as_bool) {
         Some(_durable) => OpOutcome::Done(empty_result(alloc)),

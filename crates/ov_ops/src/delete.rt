@@ -23,7 +23,8 @@ fn keys_of(
     table: &str,
     conditions: &[Condition],
 ) -> Result<Vec<RowKey>, AllocError>
-    ensures { IfOk result (λ v. v.items ≡ map (λ r. r.0) (matching stage.now.now table.now conditions.now)) }
+    ensures { IfOk result (λ v. v.items
+        ≡ map (λ r. r.0) (matching stage.now.now table.now conditions.now)) }
 {
     let mut keys = Vec::new(alloc);
     let rows = stage.matching(alloc, table, conditions)?;
@@ -35,7 +36,8 @@ fn keys_of(
 
 /// Removes the rows at these keys.
 fn remove_rows(stage: &mut Stage<'_>, keys: Vec<RowKey>) -> Result<(), AllocError>
-    ensures rows { OnOk result (stage.new ≡ record stage.old { now = without_rows keys.items stage.old.now }) }
+    ensures rows { OnOk result (stage.new
+        ≡ record stage.old { now = without_rows keys.items stage.old.now }) }
     ensures frame { stage.new.before ≡ stage.old.before }
 {
     for key in keys {
@@ -51,7 +53,10 @@ pub(crate) fn delete<'a, O: Owns>(
     ctx: &OpCtx<'a, '_, '_, '_, O>,
     operation: &'a Value,
 ) -> Result<OpResult, OpFault>
-    ensures done { IsDone (spec.delete_outcome (context_of O.owned ctx.now stage.old.before) stage.old.now (view operation.now)) result stage.new.now }
+    ensures done { IsDone
+        (spec.delete_outcome (context_of O.owned ctx.now stage.old.before) stage.old.now
+        (view operation.now))
+        result stage.new.now }
     ensures frame { stage.new.before ≡ stage.old.before }
 {
     let (name, table) = table_at(ctx, operation)?;

@@ -18,7 +18,9 @@ use uuid::Uuid;
 
 /// Whether a row of the table has the identifier now; or had it before the transaction, if it was chosen.
 fn is_taken(stage: &Stage<'_>, key: &RowKey, is_chosen: bool) -> bool
-    ensures { result ≡ (contains_key stage.now.now key.now || (is_chosen && contains_key stage.now.before key.now)) }
+    ensures { result
+        ≡ (contains_key stage.now.now key.now ||
+        (is_chosen && contains_key stage.now.before key.now)) }
 {
     stage.contains(key) || (is_chosen && stage.before().contains(key))
 }
@@ -33,7 +35,10 @@ fn put_new<O: Owns>(
     is_chosen: bool,
     id: Option<Uuid>,
 ) -> Result<OpResult, OpFault>
-    ensures done { IsDone (spec.put_new (context_of O.owned ctx.now stage.old.before) stage.old.now table.now columns is_chosen id) result stage.new.now }
+    ensures done { IsDone
+        (spec.put_new (context_of O.owned ctx.now stage.old.before) stage.old.now table.now columns
+        is_chosen id)
+        result stage.new.now }
     ensures frame { stage.new.before ≡ stage.old.before }
 {
     let Some(id) = id else {
@@ -56,7 +61,10 @@ pub(crate) fn insert<'a, O: Owns>(
     place: usize,
     operation: &'a Value,
 ) -> Result<OpResult, OpFault>
-    ensures done { IsDone (spec.insert_outcome (context_of O.owned ctx.now stage.old.before) place stage.old.now (view operation.now)) result stage.new.now }
+    ensures done { IsDone
+        (spec.insert_outcome (context_of O.owned ctx.now stage.old.before) place stage.old.now
+        (view operation.now))
+        result stage.new.now }
     ensures frame { stage.new.before ≡ stage.old.before }
 {
     let (name, table) = table_at(ctx, operation)?;

@@ -22,7 +22,8 @@ pub(crate) fn table_at<'a, O: Owns>(
     operation: &'a Value,
 ) -> Result<(&'a str, &'a Table), OpFault>
     ensures { (before : Database) (next : List ℕ → table → spec.OpOutcome)
-        → GoesOn (spec.on_table (context_of O.owned ctx.now before) (view operation.now) next) (λ t. next t.0.now t.1.now) result }
+        → GoesOn (spec.on_table (context_of O.owned ctx.now before) (view operation.now) next)
+        (λ t. next t.0.now t.1.now) result }
 {
     let Some(name) = text_at(operation, "table") else {
         return Err(OpFault::Refused(OpError::Syntax));
@@ -41,7 +42,9 @@ pub(crate) fn conditions_at<O: Owns>(
     operation: &Value,
 ) -> Result<Vec<Condition>, OpFault>
     ensures { (before : Database) (next : List condition → spec.OpOutcome)
-        → GoesOn (on_conditions (context_of O.owned ctx.now before) table.now (view operation.now) next) (λ v. next v.items) result }
+        → GoesOn
+        (on_conditions (context_of O.owned ctx.now before) table.now (view operation.now) next)
+        (λ v. next v.items) result }
 {
     let Some(items) = operation.get("where").and_then(Value::as_array) else {
         return Err(OpFault::Refused(OpError::Syntax));

@@ -28,7 +28,8 @@ fn mutated_rows(
     conditions: &[Condition],
     mutations: &[Mutation<'_>],
 ) -> Result<Vec<(RowKey, Columns)>, OpFault>
-    ensures { IsOpResult (λ v. v.items) (spec.mutated_rows mutations.now (matching stage.now.now table.now conditions.now)) result }
+    ensures { IsOpResult (λ v. v.items)
+        (spec.mutated_rows mutations.now (matching stage.now.now table.now conditions.now)) result }
 {
     let mut changed = Vec::new(alloc);
     let rows = stage.matching(alloc, table, conditions)?;
@@ -50,7 +51,10 @@ pub(crate) fn mutate<'a, O: Owns>(
     ctx: &OpCtx<'a, '_, '_, '_, O>,
     operation: &'a Value,
 ) -> Result<OpResult, OpFault>
-    ensures done { IsDone (spec.mutate_outcome (context_of O.owned ctx.now stage.old.before) stage.old.now (view operation.now)) result stage.new.now }
+    ensures done { IsDone
+        (spec.mutate_outcome (context_of O.owned ctx.now stage.old.before) stage.old.now
+        (view operation.now))
+        result stage.new.now }
     ensures frame { stage.new.before ≡ stage.old.before }
 {
     let (name, table) = table_at(ctx, operation)?;

@@ -29,7 +29,10 @@ fn run_control<'a, O: Owns>(
     op: &str,
     operation: &'a Value,
 ) -> OpOutcome
-    ensures { IsOutcome (spec.control_outcome (context_of O.owned ctx.now stage.now.before) stage.now.now (view operation.now) op.now) result stage.now.now }
+    ensures { IsOutcome
+        (spec.control_outcome (context_of O.owned ctx.now stage.now.before) stage.now.now
+        (view operation.now) op.now)
+        result stage.now.now }
 {
     match op {
         "wait" => wait(alloc, stage, ctx, operation),
@@ -50,7 +53,10 @@ pub fn run_op<'a, O: Owns>(
     place: usize,
     operation: &'a Value,
 ) -> OpOutcome
-    ensures done { IsOutcome (spec.outcome_of (context_of O.owned ctx.now stage.old.before) place stage.old.now (view operation.now)) result stage.new.now }
+    ensures done { IsOutcome
+        (spec.outcome_of (context_of O.owned ctx.now stage.old.before) place stage.old.now
+        (view operation.now))
+        result stage.new.now }
     ensures frame { stage.new.before ≡ stage.old.before }
 {
     match text_at(operation, "op") {

@@ -42,7 +42,8 @@ pub(crate) fn shown_rows(
     conditions: &[Condition],
     names: &[Text],
 ) -> Result<Vec<ShownRow>, AllocError>
-    ensures { IfOk result (λ v. v.items ≡ map (spec.projection names.now) (matching stage.now.now table.now conditions.now)) }
+    ensures { IfOk result (λ v. v.items
+        ≡ map (spec.projection names.now) (matching stage.now.now table.now conditions.now)) }
 {
     let found = stage.matching(alloc, table, conditions)?;
     shown_of(alloc, names, found.as_slice())
@@ -50,7 +51,8 @@ pub(crate) fn shown_rows(
 
 /// What is shown of these rows, as text.
 fn text_of(alloc: Global, names: &[Text], rows: &[RowView<'_>]) -> Result<ArrayText, AllocError>
-    ensures { IfOk result (λ text. text ≡ items_of (map (λ r. spec.written_row (shown_of names.now r)) rows.now)) }
+    ensures { IfOk result (λ text. text
+        ≡ items_of (map (λ r. spec.written_row (shown_of names.now r)) rows.now)) }
 {
     let mut text = ArrayText::new(alloc);
     for at in 0..rows.len() {
@@ -62,7 +64,8 @@ fn text_of(alloc: Global, names: &[Text], rows: &[RowView<'_>]) -> Result<ArrayT
 
 /// These rows as text; of equal rows, the first alone.
 fn text_once(alloc: Global, rows: &[ShownRow]) -> Result<ArrayText, AllocError>
-    ensures { IfOk result (λ text. text ≡ items_of (map spec.written_row (spec.without_repeats rows.now))) }
+    ensures { IfOk result (λ text. text
+        ≡ items_of (map spec.written_row (spec.without_repeats rows.now))) }
 {
     let mut seen = BTreeSet::new(alloc);
     let mut text = ArrayText::new(alloc);
@@ -81,8 +84,12 @@ fn text_shown(
     names: &[Text],
     rows: &[RowView<'_>],
 ) -> Result<ArrayText, AllocError>
-    requires { are_apart ≡ true → spec.without_repeats (map (shown_of names.now) rows.now) ≡ map (shown_of names.now) rows.now }
-    ensures { IfOk result (λ text. text ≡ items_of (map spec.written_row (spec.without_repeats (map (shown_of names.now) rows.now)))) }
+    requires { are_apart ≡ true
+        → spec.without_repeats (map (shown_of names.now) rows.now)
+        ≡ map (shown_of names.now) rows.now }
+    ensures { IfOk result (λ text. text
+        ≡ items_of
+        (map spec.written_row (spec.without_repeats (map (shown_of names.now) rows.now)))) }
 {
     if are_apart {
         return text_of(alloc, names, rows);
@@ -100,7 +107,11 @@ pub fn select_result(
     conditions: &[Condition],
     names: &[Text],
 ) -> Result<OpResult, AllocError>
-    ensures { IfOk result (λ r. r ≡ spec.select_result (spec.without_repeats (map (spec.projection names.now) (matching stage.now.now table.now conditions.now)))) }
+    ensures { IfOk result (λ r. r
+        ≡ spec.select_result
+        (spec.without_repeats
+        (map (spec.projection names.now)
+        (matching stage.now.now table.now conditions.now)))) }
 {
     let rows = stage.matching(alloc, table, conditions)?;
     let are_apart = stage.tells_apart(table, names);
@@ -115,7 +126,10 @@ pub(crate) fn select<'a, O: Owns>(
     ctx: &OpCtx<'a, '_, '_, '_, O>,
     operation: &'a Value,
 ) -> Result<OpResult, OpFault>
-    ensures { IsDone (spec.select_outcome (context_of O.owned ctx.now stage.now.before) stage.now.now (view operation.now)) result stage.now.now }
+    ensures { IsDone
+        (spec.select_outcome (context_of O.owned ctx.now stage.now.before) stage.now.now
+        (view operation.now))
+        result stage.now.now }
 {
     let (name, table) = table_at(ctx, operation)?;
     let conditions = conditions_at(alloc, ctx, table, operation)?;

@@ -26,7 +26,8 @@ fn updated_rows(
     conditions: &[Condition],
     given: &NamedValues,
 ) -> Result<Vec<(RowKey, Columns)>, AllocError>
-    ensures { IfOk result (λ v. v.items ≡ map (spec.updated_row given.now) (matching stage.now.now table.now conditions.now)) }
+    ensures { IfOk result (λ v. v.items
+        ≡ map (spec.updated_row given.now) (matching stage.now.now table.now conditions.now)) }
 {
     let mut changed = Vec::new(alloc);
     let rows = stage.matching(alloc, table, conditions)?;
@@ -45,7 +46,10 @@ pub(crate) fn update<'a, O: Owns>(
     ctx: &OpCtx<'a, '_, '_, '_, O>,
     operation: &'a Value,
 ) -> Result<OpResult, OpFault>
-    ensures done { IsDone (spec.update_outcome (context_of O.owned ctx.now stage.old.before) stage.old.now (view operation.now)) result stage.new.now }
+    ensures done { IsDone
+        (spec.update_outcome (context_of O.owned ctx.now stage.old.before) stage.old.now
+        (view operation.now))
+        result stage.new.now }
     ensures frame { stage.new.before ≡ stage.old.before }
 {
     let (name, table) = table_at(ctx, operation)?;

@@ -40,8 +40,16 @@ impl<'a> Waited<'a> {
         ctx: &OpCtx<'a, '_, '_, '_, O>,
         operation: &'a Value,
     ) -> Result<Waited<'a>, OpFault>
-        ensures { (before rows : Database) → GoesOn (spec.wait_outcome (context_of O.owned ctx.now before) rows (view operation.now))
-            (λ w. spec.waits (context_of O.owned ctx.now before) w.timeout (spec.is_met (until_view w.until) (map (projection w.compared.items) (matching rows w.table.now w.conditions.items)) w.told.items) rows) result }
+        ensures { (before rows : Database)
+            → GoesOn
+            (spec.wait_outcome (context_of O.owned ctx.now before) rows (view operation.now))
+            (λ w. spec.waits (context_of O.owned ctx.now before) w.timeout
+            (spec.is_met (until_view w.until)
+            (map (projection w.compared.items)
+            (matching rows w.table.now w.conditions.items))
+            w.told.items)
+            rows)
+            result }
     {
         let (name, table) = table_at(ctx, operation)?;
         let timeout = timeout_of(operation.get("timeout"))?;
@@ -76,7 +84,11 @@ impl<'a> Waited<'a> {
 
 /// Whether the wait is met.
 fn has_come(alloc: Global, stage: &Stage<'_>, waited: &Waited<'_>) -> Result<bool, AllocError>
-    ensures { IfOk result (λ b. b ≡ spec.is_met (until_view waited.now.until) (map (projection waited.now.compared.items) (matching stage.now.now waited.now.table.now waited.now.conditions.items)) waited.now.told.items) }
+    ensures { IfOk result (λ b. b
+        ≡ spec.is_met (until_view waited.now.until)
+        (map (projection waited.now.compared.items)
+        (matching stage.now.now waited.now.table.now waited.now.conditions.items))
+        waited.now.told.items) }
 {
     let (conditions, compared) = (waited.conditions.as_slice(), waited.compared.as_slice());
     let seen = shown_rows(alloc, stage, waited.table, conditions, compared)?;
@@ -85,7 +97,8 @@ fn has_come(alloc: Global, stage: &Stage<'_>, waited: &Waited<'_>) -> Result<boo
 
 /// Ends the wait if it is met; otherwise the transaction waits on, until it is as old as the timeout.
 fn come(alloc: Global, timeout: Option<u64>, age: u64, has_come: bool) -> OpOutcome
-    ensures { (c : OpContext) (rows : Database) → c.age ≡ age → IsOutcome (spec.waits c timeout has_come rows) result rows }
+    ensures { (c : OpContext) (rows : Database) → c.age ≡ age
+        → IsOutcome (spec.waits c timeout has_come rows) result rows }
 {
     if has_come {
         return OpOutcome::Done(empty_result(alloc));
@@ -103,7 +116,10 @@ pub(crate) fn wait<'a, O: Owns>(
     ctx: &OpCtx<'a, '_, '_, '_, O>,
     operation: &'a Value,
 ) -> OpOutcome
-    ensures { IsOutcome (spec.wait_outcome (context_of O.owned ctx.now stage.now.before) stage.now.now (view operation.now)) result stage.now.now }
+    ensures { IsOutcome
+        (spec.wait_outcome (context_of O.owned ctx.now stage.now.before) stage.now.now
+        (view operation.now))
+        result stage.now.now }
 {
     let waited = match Waited::read(alloc, ctx, operation) {
         Ok(waited) => waited,

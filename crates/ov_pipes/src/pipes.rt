@@ -26,8 +26,10 @@ pub fn pipes_over<'a, R: SystemClock, I: Read + Drop, O: Write + Drop>(
     input: I,
     output: O,
 ) -> Result<Pipes<Watched<I>, Watched<BufWriter<O>>, MonotonicClock<'a, R>>, AllocError>
-    ensures reader { IfOk result (λ pipes. source_of ⟦<Watched<I> as Source>⟧ pipes.reader ≡ source_state [] (I.remaining input) false 0) }
-    ensures writer { IfOk result (λ pipes. sink_of ⟦<Watched<BufWriter<O>> as Sink>⟧ pipes.writer ≡ sink_state [] (O.contents output) false 0) }
+    ensures reader { IfOk result (λ pipes. source_of ⟦<Watched<I> as Source>⟧ pipes.reader
+        ≡ source_state [] (I.remaining input) false 0) }
+    ensures writer { IfOk result (λ pipes. sink_of ⟦<Watched<BufWriter<O>> as Sink>⟧ pipes.writer
+        ≡ sink_state [] (O.contents output) false 0) }
     ensures clock { IfOk result (λ pipes. pipes.clock.last ≡ 0) }
 {
     let Ok(output) = BufWriter::new(alloc, output) else {

@@ -14,8 +14,10 @@ pub(crate) fn write_waiting<K: Keeper + Drop, D: Draws + Drop, W: Sink>(
     session: Session,
     writer: &mut W,
 ) -> bool
-    ensures sends { Sends session.serial result core.old core.new (W.bytes_written writer.old) (W.bytes_written writer.new) }
-    ensures given { GivesWritten (W.bytes_written writer.old) (W.contents writer.old) (W.bytes_written writer.new) (W.contents writer.new) }
+    ensures sends { Sends session.serial result core.old core.new (W.bytes_written writer.old)
+        (W.bytes_written writer.new) }
+    ensures given { GivesWritten (W.bytes_written writer.old) (W.contents writer.old)
+        (W.bytes_written writer.new) (W.contents writer.new) }
     ensures state { core.new.state ≡ core.old.state }
     ensures keeper { core.new.keeper ≡ core.old.keeper }
     ensures flushed { result ≡ true → W.is_flushed writer.new ≡ true }

@@ -1,4 +1,5 @@
-ghost use Rattle.std.specs.Prelude.{◌≡◌, ◌⊎◌, ◌≤◌, ◌++◌, ℕ, List, [], ◌∷◌, map, length, true, is_ok, IfOk, IfErr};
+ghost use Rattle.std.specs.Prelude.{◌≡◌, ◌⊎◌, ◌≤◌, ◌++◌, ℕ, List, [], ◌∷◌, map, length, true};
+ghost use Rattle.std.specs.Prelude.{is_ok, IfOk, IfErr};
 ghost use Rattle.std.specs.Io.KnownBytes.{IsAtEnd};
 ghost use Rattle.ov_specs.specs.machine.Machine.{is_open, Entry as SpecEntry, Open as SpecOpen};
 ghost use Rattle.ov_history.specs.Entries.{cause_view, event_view, entry_view};
@@ -6,7 +7,8 @@ ghost use Rattle.ov_core.specs.Following.{CoreState};
 ghost use Rattle.ov_core.specs.Stepping.{RefusesStep};
 ghost use Rattle.ov_streams.specs.Feeding.{IsFed};
 ghost use Rattle.ov_ends.specs.Ends.{KeepsInput, GivesWritten};
-ghost use Rattle.ov_serve.specs.Serving.{IoState, io_state, Served, is_written, CauseMatchesCounts, most_piece_bytes};
+ghost use Rattle.ov_serve.specs.Serving.{IoState, io_state, Served, is_written, CauseMatchesCounts};
+ghost use Rattle.ov_serve.specs.Serving.{most_piece_bytes};
 ghost use Rattle.ov_serve.specs.Progress.{stream_cause, ServedAndFed, ServesPiece};
 
 use crate::send::write_waiting;
@@ -39,17 +41,30 @@ pub fn serve_one<R: Wait, K: Keeper + Drop, D: Draws + Drop, S: Source, W: Sink,
     writer: &mut W,
     clock: &mut C,
 ) -> Result<Cause, StepFault>
-    ensures served { IfOk result (λ cause. Served C.tells core.old.state.next core.old (io_state (S.bytes_read reader.old) (W.bytes_written writer.old) clock.old)
-        cause core.new (io_state (S.bytes_read reader.new) (W.bytes_written writer.new) clock.new)) }
-    ensures flushed { IfOk result (λ cause. is_written cause ≡ true → W.is_flushed writer.new ≡ true) }
-    ensures ends { IfOk result (λ cause. CauseMatchesCounts cause (S.at_end reader.new) (S.faults reader.old) (S.faults reader.new) (W.faults writer.old) (W.faults writer.new)) }
+    ensures served { IfOk result
+        (λ cause. Served C.tells core.old.state.next core.old
+        (io_state (S.bytes_read reader.old) (W.bytes_written writer.old) clock.old)
+        cause core.new
+        (io_state (S.bytes_read reader.new) (W.bytes_written writer.new) clock.new)) }
+    ensures flushed { IfOk result (λ cause. is_written cause ≡ true
+        → W.is_flushed writer.new ≡ true) }
+    ensures ends { IfOk result
+        (λ cause. CauseMatchesCounts cause (S.at_end reader.new) (S.faults reader.old)
+        (S.faults reader.new) (W.faults writer.old) (W.faults writer.new)) }
     // What was read is of what the reader had, all of it if its end is reported, and what was written is what the writer was
     // given.
-    ensures input { IfOk result (λ cause. KeepsInput (S.bytes_read reader.old) (S.remaining reader.old) (S.bytes_read reader.new) (S.remaining reader.new)) }
-    ensures all { IfOk result (λ cause. cause ≡ Cause.InputEnded → IsAtEnd (S.remaining reader.new)) }
-    ensures given { IfOk result (λ cause. GivesWritten (W.bytes_written writer.old) (W.contents writer.old) (W.bytes_written writer.new) (W.contents writer.new)) }
-    ensures refused { IfErr result (λ fault. (core.new ≡ core.old) × RefusesStep SpecOpen core.old.state fault) }
-    ensures untouched { IfErr result (λ fault. (reader.new ≡ reader.old) × (writer.new ≡ writer.old) × (clock.new ≡ clock.old)) }
+    ensures input { IfOk result
+        (λ cause. KeepsInput (S.bytes_read reader.old) (S.remaining reader.old)
+        (S.bytes_read reader.new) (S.remaining reader.new)) }
+    ensures all { IfOk result (λ cause. cause ≡ Cause.InputEnded
+        → IsAtEnd (S.remaining reader.new)) }
+    ensures given { IfOk result
+        (λ cause. GivesWritten (W.bytes_written writer.old) (W.contents writer.old)
+        (W.bytes_written writer.new) (W.contents writer.new)) }
+    ensures refused { IfErr result (λ fault. (core.new ≡ core.old)
+        × RefusesStep SpecOpen core.old.state fault) }
+    ensures untouched { IfErr result (λ fault. (reader.new ≡ reader.old) × (writer.new ≡ writer.old)
+        × (clock.new ≡ clock.old)) }
     ensures honest { K.is_honest core.new.keeper → K.is_honest core.old.keeper }
 {
     let session = core.open_session()?;
@@ -69,13 +84,18 @@ fn serve_session<R: Wait, K: Keeper + Drop, D: Draws + Drop, S: Source, W: Sink,
     clock: &mut C,
 ) -> Cause
     ensures served { (first : CoreState K D) (from : IoState C)
-        → ServedAndFed C.tells session.serial first from core.old (io_state (S.bytes_read reader.old) (W.bytes_written writer.old) clock.old) cutter.old
-        → Served C.tells session.serial first from result core.new (io_state (S.bytes_read reader.new) (W.bytes_written writer.new) clock.new) }
+        → ServedAndFed C.tells session.serial first from core.old
+        (io_state (S.bytes_read reader.old) (W.bytes_written writer.old) clock.old) cutter.old
+        → Served C.tells session.serial first from result core.new
+        (io_state (S.bytes_read reader.new) (W.bytes_written writer.new) clock.new) }
     ensures flushed { is_written result ≡ true → W.is_flushed writer.new ≡ true }
-    ensures ends { CauseMatchesCounts result (S.at_end reader.new) (S.faults reader.old) (S.faults reader.new) (W.faults writer.old) (W.faults writer.new) }
-    ensures input { KeepsInput (S.bytes_read reader.old) (S.remaining reader.old) (S.bytes_read reader.new) (S.remaining reader.new) }
+    ensures ends { CauseMatchesCounts result (S.at_end reader.new) (S.faults reader.old)
+        (S.faults reader.new) (W.faults writer.old) (W.faults writer.new) }
+    ensures input { KeepsInput (S.bytes_read reader.old) (S.remaining reader.old)
+        (S.bytes_read reader.new) (S.remaining reader.new) }
     ensures all { result ≡ Cause.InputEnded → IsAtEnd (S.remaining reader.new) }
-    ensures given { GivesWritten (W.bytes_written writer.old) (W.contents writer.old) (W.bytes_written writer.new) (W.contents writer.new) }
+    ensures given { GivesWritten (W.bytes_written writer.old) (W.contents writer.old)
+        (W.bytes_written writer.new) (W.contents writer.new) }
     ensures honest { K.is_honest core.new.keeper → K.is_honest core.old.keeper }
 {
     let mut piece = [0u8; PIECE_BYTES];
@@ -119,7 +139,8 @@ fn serve_piece<K: Keeper + Drop, D: Draws + Drop, C: Clock>(
     requires short { length piece.now ≤ most_piece_bytes }
     ensures short { length piece.now ≤ most_piece_bytes }
     ensures entered { (stream : List ℕ) → IsFed stream cutter.old
-        → ServesPiece C.tells session.serial stream piece.now core.old clock.old (is_ok result) core.new clock.new cutter.new }
+        → ServesPiece C.tells session.serial stream piece.now core.old clock.old (is_ok result)
+        core.new clock.new cutter.new }
     ensures honest { K.is_honest core.new.keeper → K.is_honest core.old.keeper }
 {
     let at = clock.now();
@@ -133,7 +154,9 @@ fn serve_piece<K: Keeper + Drop, D: Draws + Drop, C: Clock>(
 /// Why the session that was closed last was closed, if its stream closed it: by damage, or when out of memory.
 fn cause_of_closing(history: &VecDeque<Entry>) -> Cause
     ensures one_of { (result ≡ Cause.Damaged) ⊎ (result ≡ Cause.Memory) }
-    ensures found { (front : List SpecEntry) (last : SpecEntry) → map entry_view history.now.items ≡ front ++ last ∷ [] → cause_view result ≡ stream_cause last.event }
+    ensures found { (front : List SpecEntry) (last : SpecEntry) → map entry_view history.now.items
+        ≡ front ++ last ∷ []
+        → cause_view result ≡ stream_cause last.event }
 {
     match history.back() {
         Some(entry) => cause_by(&entry.event),

@@ -86,7 +86,8 @@ fn service_of<R: RandomSource, F: Files>(
     place: Place,
 ) -> Result<Service<RandomDraws<StdRng>>, Ending>
     ensures asked { IfOk result (λ service. IsAsked schema place service) }
-    ensures kinds { IfErr result (λ ending. (ending ≡ Ending.Memory) ⊎ ((ending ≡ Ending.Schema) ⊎ (ending ≡ Ending.Database))) }
+    ensures kinds { IfErr result (λ ending. (ending ≡ Ending.Memory)
+        ⊎ ((ending ≡ Ending.Schema) ⊎ (ending ≡ Ending.Database))) }
 {
     let schema = match schema_of(host, alloc, schema) {
         Ok(schema) => schema,
@@ -129,10 +130,13 @@ where
     S: Source,
     W: Sink,
     C: Clock,
-    ensures served { IfOk result (λ ended. RunsDatabase ⟦<VolatileKeeper as Keeper>⟧ ⟦<Store<FileStore<FileFrom<T>>> as Keeper>⟧ ⟦<RandomDraws<StdRng> as Draws>⟧.draws C.tells
-        (image_at T.Start) (map A.text words.now) (state_of S.Source W.Sink pipes.old) ended (state_of S.Source W.Sink pipes.new)) }
+    ensures served { IfOk result
+        (λ ended. RunsDatabase ⟦<VolatileKeeper as Keeper>⟧ ⟦<Store<FileStore<FileFrom<T>>> as Keeper>⟧ ⟦<RandomDraws<StdRng> as Draws>⟧.draws C.tells
+        (image_at T.Start) (map A.text words.now) (state_of S.Source W.Sink pipes.old) ended
+        (state_of S.Source W.Sink pipes.new)) }
     ensures untouched { OnErr result (pipes.new ≡ pipes.old) }
-    ensures kinds { IfErr result (λ ending. (ending ≢ Ending.InputEnded) × (ending ≢ Ending.Streams)) }
+    ensures kinds { IfErr result (λ ending. (ending ≢ Ending.InputEnded)
+        × (ending ≢ Ending.Streams)) }
     ensures arguments { result ≡ Err Ending.Arguments → settings_of (map A.text words.now) ≡ None }
 {
     let settings = match read_words(host.alloc(), words) {

@@ -28,7 +28,8 @@ pub fn chosen_line(
     named: &str,
     listener: &TcpListener,
 ) -> Result<Option<Text>, ListenFault>
-    ensures chosen { leaves_port_open named.now ≡ true → IfOk result (λ told. (address : SpecAddress) × (told ≡ Some (line address))) }
+    ensures chosen { leaves_port_open named.now ≡ true
+        → IfOk result (λ told. (address : SpecAddress) × (told ≡ Some (line address))) }
     ensures named { leaves_port_open named.now ≡ false → result ≡ Ok None }
 {
     if !leaves_port_open(named) {

@@ -21,7 +21,8 @@ pub fn conditions_of<N: Names>(
     items: &[Value],
     names: &N,
 ) -> Result<Vec<Condition>, OpFault>
-    ensures { IsOpResult (λ v. v.items) (spec.conditions_read (N.names names.now) table.now (items_view items.now)) result }
+    ensures { IsOpResult (λ v. v.items)
+        (spec.conditions_read (N.names names.now) table.now (items_view items.now)) result }
 {
     let mut conditions = Vec::new(alloc);
     for item in items {

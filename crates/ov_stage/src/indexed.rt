@@ -40,7 +40,8 @@ fn values_asked(
     conditions: &[Condition],
     index: &[Text],
 ) -> Result<Option<Vec<Datum>>, AllocError>
-    ensures { IfOk result (λ asked. IfSome asked (λ values. AreValuesOf conditions.now index.now values.items)) }
+    ensures { IfOk result
+        (λ asked. IfSome asked (λ values. AreValuesOf conditions.now index.now values.items)) }
 {
     let mut values = Vec::new(alloc);
     for column in index {
@@ -59,7 +60,8 @@ fn key_asked(
     name: &str,
     table: &Table,
 ) -> Result<Option<IndexKey>, AllocError>
-    ensures { IfOk result (λ asked. IfSome asked (λ key. IsKeyOf conditions.now name.now table.now key)) }
+    ensures { IfOk result
+        (λ asked. IfSome asked (λ key. IsKeyOf conditions.now name.now table.now key)) }
 {
     for (number, index) in table.indexes().iter().enumerate() {
         if let Some(values) = values_asked(alloc, conditions, index.as_slice())? {
@@ -89,7 +91,10 @@ impl<'a> Indexed<'a> {
         name: &str,
     ) -> Result<Option<&'a [Uuid]>, AllocError>
         ensures ascending { IfOk result (λ asked. IfSome asked (λ ids. Ascend ids.now)) }
-        ensures all { (before : rows.Database) → AreIndexesOf self.entry.schema.now before self.entry.indexes.now → IfOk result (λ asked. IfSome asked (λ ids. AreIdsOf conditions.now before name.now ids.now)) }
+        ensures all { (before : rows.Database)
+            → AreIndexesOf self.entry.schema.now before self.entry.indexes.now
+            → IfOk result
+            (λ asked. IfSome asked (λ ids. AreIdsOf conditions.now before name.now ids.now)) }
     {
         let Some(table) = self.schema.table(name) else {
             return Ok(None);

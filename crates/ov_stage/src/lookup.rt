@@ -36,7 +36,8 @@ fn row_before<'a>(rows: &'a Rows, key: &RowKey) -> Option<RowView<'a>>
 
 /// The change of this key, with its identifier.
 fn change_at<'a>(delta: &'a Delta, key: &RowKey) -> Option<(&'a Uuid, &'a Option<Row>)>
-    ensures { with_key key.now.1 (get delta.now key.now) ≡ option_map (λ c. (c.0.now, c.1.now)) result }
+    ensures { with_key key.now.1 (get delta.now key.now)
+        ≡ option_map (λ c. (c.0.now, c.1.now)) result }
 {
     match delta.map().get_key_value(key) {
         Some((key, change)) => Some((key.as_id(), change)),
@@ -46,7 +47,8 @@ fn change_at<'a>(delta: &'a Delta, key: &RowKey) -> Option<(&'a Uuid, &'a Option
 
 /// The row of this key after the changes. Looks at no other row.
 pub(crate) fn row_after<'a>(rows: &'a Rows, delta: &'a Delta, key: &RowKey) -> Option<RowView<'a>>
-    ensures { option_map (lent_row_of key.now.0) result ≡ with_key key.now (get (applied delta.now rows.now) key.now) }
+    ensures { option_map (lent_row_of key.now.0) result
+        ≡ with_key key.now (get (applied delta.now rows.now) key.now) }
 {
     match change_at(delta, key) {
         Some((id, Some(row))) => Some(RowView { id, row }),
@@ -61,7 +63,8 @@ fn listed_at<'a>(
     table: &'a TableRows,
     ids: &[Uuid],
 ) -> Result<Vec<RowView<'a>>, AllocError>
-    ensures { IfOk result (λ rows. map lent_row rows.items ≡ flat_map (λ id. option_to_list (with_key id (get table.now id))) ids.now) }
+    ensures { IfOk result (λ rows. map lent_row rows.items
+        ≡ flat_map (λ id. option_to_list (with_key id (get table.now id))) ids.now) }
 {
     let mut rows = Vec::with_capacity(alloc, ids.len())?;
     for id in ids {
@@ -79,7 +82,8 @@ pub(crate) fn rows_of_ids<'a>(
     table: &str,
     ids: &[Uuid],
 ) -> Result<Vec<RowView<'a>>, AllocError>
-    ensures { IfOk result (λ listed. map (lent_row_of table.now) listed.items ≡ rows_of_ids rows.now table.now ids.now) }
+    ensures { IfOk result (λ listed. map (lent_row_of table.now) listed.items
+        ≡ rows_of_ids rows.now table.now ids.now) }
 {
     match rows.of_table(table) {
         Some(rows) => listed_at(alloc, rows, ids),

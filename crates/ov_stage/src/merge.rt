@@ -34,7 +34,8 @@ pub(crate) fn rows_of<'a>(
     rows: &'a Rows,
     table: &str,
 ) -> Result<Vec<RowView<'a>>, AllocError>
-    ensures { IfOk result (λ listed. map (lent_row_of table.now) listed.items ≡ filter (λ r. bytes_eq r.0.0 table.now) (entries rows.now)) }
+    ensures { IfOk result (λ listed. map (lent_row_of table.now) listed.items
+        ≡ filter (λ r. bytes_eq r.0.0 table.now) (entries rows.now)) }
 {
     match rows.of_table(table) {
         Some(rows) => listed(alloc, rows),
@@ -48,7 +49,8 @@ fn changes_of<'a>(
     delta: &'a Delta,
     table: &str,
 ) -> Result<Vec<(&'a Uuid, &'a Option<Row>)>, AllocError>
-    ensures { IfOk result (λ changes. map (λ c. ((table.now, c.0.now), c.1.now)) changes.items ≡ changes_of delta.now table.now) }
+    ensures { IfOk result (λ changes. map (λ c. ((table.now, c.0.now), c.1.now)) changes.items
+        ≡ changes_of delta.now table.now) }
 {
     let mut changes = Vec::new(alloc);
     for (key, change) in delta.map() {
@@ -64,7 +66,8 @@ fn push_change<'a>(
     merged: &mut Vec<RowView<'a>>,
     change: (&'a Uuid, &'a Option<Row>),
 ) -> Result<(), AllocError>
-    ensures { OnOk result (map lent_row merged.new.items ≡ map lent_row merged.old.items ++ row_made (change.entry.0.now, change.entry.1.now)) }
+    ensures { OnOk result (map lent_row merged.new.items
+        ≡ map lent_row merged.old.items ++ row_made (change.entry.0.now, change.entry.1.now)) }
 {
     if let Some(row) = change.1 {
         merged.push(RowView { id: change.0, row })?;
@@ -76,7 +79,9 @@ fn push_changes<'a>(
     merged: &mut Vec<RowView<'a>>,
     changes: &[(&'a Uuid, &'a Option<Row>)],
 ) -> Result<(), AllocError>
-    ensures { OnOk result (map lent_row merged.new.items ≡ map lent_row merged.old.items ++ flat_map row_made (map (λ c. (c.0.now, c.1.now)) changes.now)) }
+    ensures { OnOk result (map lent_row merged.new.items
+        ≡ map lent_row merged.old.items ++ flat_map row_made
+        (map (λ c. (c.0.now, c.1.now)) changes.now)) }
 {
     for change in changes {
         push_change(merged, *change)?;
@@ -93,7 +98,8 @@ fn merged<'a>(
 ) -> Result<Vec<RowView<'a>>, AllocError>
     requires rows { T (is_sorted id_cmp (map lent_row rows.now)) }
     requires changes { T (is_sorted id_cmp (map (λ c. (c.0.now, c.1.now)) changes.now)) }
-    ensures { IfOk result (λ merged. map lent_row merged.items ≡ placed id_cmp (map (λ c. (c.0.now, c.1.now)) changes.now) (map lent_row rows.now)) }
+    ensures { IfOk result (λ merged. map lent_row merged.items
+        ≡ placed id_cmp (map (λ c. (c.0.now, c.1.now)) changes.now) (map lent_row rows.now)) }
 {
     let mut merged = Vec::with_capacity(alloc, rows.len())?;
     let mut i = 0;
@@ -130,7 +136,8 @@ pub(crate) fn rows_after<'a>(
     table: &str,
 ) -> Result<Vec<RowView<'a>>, AllocError>
     requires { T (is_sorted line_cmp (map (lent_row_of table.now) rows.items)) }
-    ensures { IfOk result (λ after. map (lent_row_of table.now) after.items ≡ rows_after delta.now table.now (map (lent_row_of table.now) rows.entry.items)) }
+    ensures { IfOk result (λ after. map (lent_row_of table.now) after.items
+        ≡ rows_after delta.now table.now (map (lent_row_of table.now) rows.entry.items)) }
 {
     if delta.is_empty() {
         return Ok(rows);

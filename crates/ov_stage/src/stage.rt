@@ -1,4 +1,5 @@
-ghost use Rattle.std.specs.Prelude.{◌≡◌, ◌==◌, List, map, option_copied, option_to_list, true, false, IfOk, IfSome, OnOk, OnErr};
+ghost use Rattle.std.specs.Prelude.{◌≡◌, ◌==◌, List, map, option_copied, option_to_list, true};
+ghost use Rattle.std.specs.Prelude.{false, IfOk, IfSome, OnOk, OnErr};
 ghost use Rattle.std.specs.List.{filter};
 ghost use Rattle.std.specs.FinMap.{contains_key, get, insert, remove, entries, len};
 ghost use Rattle.ov_db.specs.Changing.{applied};
@@ -122,7 +123,9 @@ impl<'a> Stage<'a> {
     /// Puts a row of these columns at the key, in a transaction of this version. A row that is as it was before the
     /// transaction keeps its version, and is no change (RFC 7047, 3.2). If an allocation fails, nothing is changed.
     pub fn put(&mut self, key: RowKey, version: Uuid, columns: Columns) -> Result<(), AllocError>
-        ensures ok { OnOk result (self.new ≡ record self.old { now = insert self.old.now key (row_now self.old.before version key columns) }) }
+        ensures ok { OnOk result (self.new
+            ≡ record self.old
+            { now = insert self.old.now key (row_now self.old.before version key columns) }) }
         ensures err { OnErr result (self.new ≡ self.old) }
     {
         if is_former(self.rows, &key, &columns) {
@@ -148,7 +151,8 @@ impl<'a> Stage<'a> {
 
     /// The current rows of the table of this name, in ascending order of their identifiers.
     pub fn rows_of(&self, alloc: Global, table: &str) -> Result<Vec<RowView<'_>>, AllocError>
-        ensures { IfOk result (λ rows. map (lent_row_of table.now) rows.items ≡ filter (λ r. bytes_eq r.0.0 table.now) (entries self.now.now)) }
+        ensures { IfOk result (λ rows. map (lent_row_of table.now) rows.items
+            ≡ filter (λ r. bytes_eq r.0.0 table.now) (entries self.now.now)) }
     {
         let rows = rows_of(alloc, self.rows, table)?;
         rows_after(alloc, rows, &self.delta, table)
@@ -163,7 +167,9 @@ impl<'a> Stage<'a> {
         conditions: &[Condition],
     ) -> Result<Option<&[Uuid]>, AllocError>
         ensures ascending { IfOk result (λ asked. IfSome asked (λ ids. Ascend ids.now)) }
-        ensures all { IfOk result (λ asked. IfSome asked (λ ids. AreIdsOf conditions.now self.now.before table.now ids.now)) }
+        ensures all { IfOk result
+            (λ asked. IfSome asked
+            (λ ids. AreIdsOf conditions.now self.now.before table.now ids.now)) }
     {
         match self.indexed {
             Some(indexed) => indexed.ids_asked(alloc, conditions, table),
@@ -180,7 +186,10 @@ impl<'a> Stage<'a> {
         ids: &[Uuid],
     ) -> Result<Vec<RowView<'_>>, AllocError>
         requires { Ascend ids.now }
-        ensures { (asked : List conditions.Condition) → AreIdsOf asked self.now.before table.now ids.now → IfOk result (λ rows. filter (is_met asked) (map (lent_row_of table.now) rows.items) ≡ matching self.now.now table.now asked) }
+        ensures { (asked : List conditions.Condition)
+            → AreIdsOf asked self.now.before table.now ids.now
+            → IfOk result (λ rows. filter (is_met asked) (map (lent_row_of table.now) rows.items)
+            ≡ matching self.now.now table.now asked) }
     {
         let before = rows_of_ids(alloc, self.rows, table, ids)?;
         rows_after(alloc, before, &self.delta, table)
@@ -188,7 +197,8 @@ impl<'a> Stage<'a> {
 
     /// The current row of this identifier in the table of this name, if there is one.
     fn rows_at(&self, alloc: Global, table: &str, id: Uuid) -> Result<Vec<RowView<'_>>, AllocError>
-        ensures { IfOk result (λ rows. map (lent_row_of table.now) rows.items ≡ option_to_list (with_key (table.now, id) (get self.now.now (table.now, id)))) }
+        ensures { IfOk result (λ rows. map (lent_row_of table.now) rows.items
+            ≡ option_to_list (with_key (table.now, id) (get self.now.now (table.now, id)))) }
     {
         let key = RowKey::new(alloc, table, id)?;
         let mut rows = Vec::new(alloc);
@@ -205,7 +215,9 @@ impl<'a> Stage<'a> {
         table: &str,
         conditions: &[Condition],
     ) -> Result<Vec<RowView<'_>>, AllocError>
-        ensures { IfOk result (λ rows. filter (is_met conditions.now) (map (lent_row_of table.now) rows.items) ≡ matching self.now.now table.now conditions.now) }
+        ensures { IfOk result
+            (λ rows. filter (is_met conditions.now) (map (lent_row_of table.now) rows.items)
+            ≡ matching self.now.now table.now conditions.now) }
     {
         if let Some(id) = only_id(conditions) {
             return self.rows_at(alloc, table, id);
@@ -225,7 +237,8 @@ impl<'a> Stage<'a> {
         table: &str,
         conditions: &[Condition],
     ) -> Result<Vec<RowView<'_>>, AllocError>
-        ensures { IfOk result (λ rows. map (lent_row_of table.now) rows.items ≡ matching self.now.now table.now conditions.now) }
+        ensures { IfOk result (λ rows. map (lent_row_of table.now) rows.items
+            ≡ matching self.now.now table.now conditions.now) }
     {
         let rows = self.candidates(alloc, table, conditions)?;
         meeting(alloc, rows, conditions)

@@ -19,7 +19,9 @@ use std::io::{self, ErrorKind};
 impl<S: Alter> Store<S> {
     /// While the connection is open, an open finds its last commit. The body is empty: it passes the law on.
     fn found(&self)
-        ensures { IsTrue (state S.Store self.now.connection).is_open → (contents : _) → MayFind S.Store self.now.connection contents → contents ≡ held (state S.Store self.now.connection).committed.trees }
+        ensures { IsTrue (state S.Store self.now.connection).is_open
+            → (contents : _) → MayFind S.Store self.now.connection contents
+            → contents ≡ held (state S.Store self.now.connection).committed.trees }
     {}
 }
 
@@ -27,7 +29,9 @@ impl<S: Alter + Drop> Store<S> {
     /// The connection, as `close` returns it, with the law of `found`.
     fn into_found(self) -> Connection<S>
         ensures same { result ≡ self.connection }
-        ensures found { IsTrue (state S.Store self.connection).is_open → (contents : _) → MayFind S.Store self.connection contents → contents ≡ held (state S.Store self.connection).committed.trees }
+        ensures found { IsTrue (state S.Store self.connection).is_open
+            → (contents : _) → MayFind S.Store self.connection contents
+            → contents ≡ held (state S.Store self.connection).committed.trees }
     {
         self.found();
         self.close()
@@ -37,7 +41,8 @@ impl<S: Alter + Drop> Store<S> {
 impl<D: Disk + Drop> Store<FileStore<D>> {
     /// Copies everything in the log into the database file, which then holds the whole database, and returns the two files.
     pub fn into_files(self) -> Result<Files<D>, KeepFault>
-        ensures whole { IfOk result (λ files. AreClean D.Disk files.log files.db → IsWhole self files) }
+        ensures whole { IfOk result (λ files. AreClean D.Disk files.log files.db
+            → IsWhole self files) }
         ensures kinds { IfErr result IsLoadFault }
     {
         match self.into_found().close_files() {

@@ -1,9 +1,12 @@
 //! Reads a file and its log to test them.
 
-ghost use Rattle.std.specs.Prelude.{◌≡◌, ◌≢◌, ◌↔◌, IfErr, IfNone, IfOk, IfSome, IsTrue, string_bytes};
+ghost use Rattle.std.specs.Prelude.{◌≡◌, ◌≢◌, ◌↔◌, IfErr, IfNone, IfOk, IfSome, IsTrue};
+ghost use Rattle.std.specs.Prelude.{string_bytes};
 ghost use Rattle.std.specs.IoError.{error_kind};
 ghost use Rattle.ov_store.specs.Answers.{Page, WasAnswered};
-ghost use Rattle.ov_store.specs.Looking.{log_of, HasBytes, HasFailed, HasLogSize, HasNoPage, HasNoRoom, HasNoSize, HasSize, IsPlain, IsUnread, ListsTables, WasRead};
+ghost use Rattle.ov_store.specs.Looking.{log_of, HasBytes, HasFailed, HasLogSize, HasNoPage};
+ghost use Rattle.ov_store.specs.Looking.{HasNoRoom, HasNoSize, HasSize, IsPlain, IsUnread};
+ghost use Rattle.ov_store.specs.Looking.{ListsTables, WasRead};
 
 use ov_tables::lists_tables;
 use std::alloc::Global;
@@ -24,7 +27,9 @@ pub(crate) struct Copies {
 /// once: if no log holds a commit, and the file is empty or lists the tables of a stored format.
 pub(crate) fn read_to_test(rt: &HostRuntime, db: &str) -> io::Result<Option<Copies>>
     ensures none { IfOk result (λ copies. IfNone copies (IsPlain db.now)) }
-    ensures some { IfOk result (λ copies. IfSome copies (λ it. WasRead db.now (record { log = it.log.items; db = it.db.items }))) }
+    ensures some { IfOk result
+        (λ copies. IfSome copies
+        (λ it. WasRead db.now (record { log = it.log.items; db = it.db.items }))) }
     ensures failed { IfErr result (HasFailed db.now) }
 {
     match log_name(rt.alloc(), db) {
@@ -47,7 +52,9 @@ fn log_name(alloc: Global, db: &str) -> io::Result<String>
 fn read_both(rt: &HostRuntime, db: &str, log: &str) -> io::Result<Option<Copies>>
     requires { log.now ≡ log_of db.now }
     ensures none { IfOk result (λ copies. IfNone copies (IsPlain db.now)) }
-    ensures some { IfOk result (λ copies. IfSome copies (λ it. WasRead db.now (record { log = it.log.items; db = it.db.items }))) }
+    ensures some { IfOk result
+        (λ copies. IfSome copies
+        (λ it. WasRead db.now (record { log = it.log.items; db = it.db.items }))) }
     ensures failed { IfErr result (HasFailed db.now) }
 {
     let db_size = size_of(rt, db)?;
@@ -62,7 +69,8 @@ fn read_both(rt: &HostRuntime, db: &str, log: &str) -> io::Result<Option<Copies>
 fn read_copies(rt: &HostRuntime, db: &str, log: &str, log_size: u64) -> io::Result<Option<Copies>>
     requires name { log.now ≡ log_of db.now }
     requires size { HasLogSize log.now log_size }
-    ensures some { IfOk result (λ copies. (it : _) × (copies ≡ Some it) × WasRead db.now (record { log = it.log.items; db = it.db.items })) }
+    ensures some { IfOk result (λ copies. (it : _) × (copies ≡ Some it)
+        × WasRead db.now (record { log = it.log.items; db = it.db.items })) }
     ensures failed { IfErr result (HasFailed db.now) }
 {
     let log = if log_size == 0 {

@@ -48,11 +48,13 @@ fn crash_and_reopen<S: Alter + Reopen + Drop>(
     alloc: Global,
     store: Store<S>,
 ) -> Result<Connection<S>, (KeepFault, S)>
-    ensures found { IfOk result (λ c. HasCleanDisk (state S.Store c) → MayFind S.Store store.connection (held (state S.Store c).now.trees)) }
+    ensures found { IfOk result (λ c. HasCleanDisk (state S.Store c)
+        → MayFind S.Store store.connection (held (state S.Store c).now.trees)) }
     ensures opens { IfOk result (λ c. HasCleanDisk (state S.Store c) → Opens (state S.Store c)) }
     ensures mode { IfOk result (λ c. c.in_transaction ≡ false) }
     ensures kinds { IfErr result (λ e. IsLoadFault e.0) }
-    ensures cause { IfErr result (λ e. IsClean (S.Store.view e.1) → e.0 ≡ KeepFault.Device → MoreFaults (S.Store.faults store.connection.store) (S.Store.faults e.1)) }
+    ensures cause { IfErr result (λ e. IsClean (S.Store.view e.1) → e.0 ≡ KeepFault.Device
+        → MoreFaults (S.Store.faults store.connection.store) (S.Store.faults e.1)) }
 {
     let mut left = store.close().into_store();
     if let Err(error) = left.crash_and_reopen() {
@@ -73,11 +75,16 @@ pub fn reopen_after_crash<S: Alter + Reopen + Drop>(
     alloc: Global,
     store: Store<S>,
 ) -> Result<Result<Store<S>, Unopened<S>>, (KeepFault, S)>
-    ensures found { IfOk result (λ opened. IfOk opened (λ s. HasCleanDisk (state S.Store s.connection) → (contents : _) → MayFind S.Store s.connection contents → MayFind S.Store store.connection contents)) }
+    ensures found { IfOk result
+        (λ opened. IfOk opened (λ s. HasCleanDisk (state S.Store s.connection)
+        → (contents : _) → MayFind S.Store s.connection contents
+        → MayFind S.Store store.connection contents)) }
     ensures of_format { IfOk result (λ opened. IfOk opened (IsOfItsFormat S.Store)) }
-    ensures refused { IfOk result (λ opened. IfErr opened (λ e. IsRefusedAgain S.Store store e.connection e.fault)) }
+    ensures refused { IfOk result
+        (λ opened. IfErr opened (λ e. IsRefusedAgain S.Store store e.connection e.fault)) }
     ensures kinds { IfErr result (λ e. IsLoadFault e.0) }
-    ensures cause { IfErr result (λ e. IsClean (S.Store.view e.1) → e.0 ≡ KeepFault.Device → MoreFaults (S.Store.faults store.connection.store) (S.Store.faults e.1)) }
+    ensures cause { IfErr result (λ e. IsClean (S.Store.view e.1) → e.0 ≡ KeepFault.Device
+        → MoreFaults (S.Store.faults store.connection.store) (S.Store.faults e.1)) }
 {
     match crash_and_reopen(alloc, store) {
         Ok(connection) => match Store::open(alloc, connection) {

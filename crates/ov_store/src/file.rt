@@ -7,7 +7,8 @@ ghost use Rattle.sqlite.specs.Start.{FindsIn};
 ghost use Rattle.sqlite.specs.State.{HasCleanDisk};
 ghost use Rattle.ov_keeper.specs.Keeping.{IsCommitFault};
 ghost use Rattle.ov_store.specs.StoreState.{MayFind, IsOfItsFormat};
-ghost use Rattle.ov_store.specs.Finding.{new_contents, HasNoTable, IsStoredIn, IsFileRefused, IsPathRefused, IsMemoryRefused};
+ghost use Rattle.ov_store.specs.Finding.{new_contents, HasNoTable, IsStoredIn, IsFileRefused};
+ghost use Rattle.ov_store.specs.Finding.{IsPathRefused, IsMemoryRefused};
 ghost use Rattle.ov_store.specs.Looking.{MayBeOpened};
 ghost use Rattle.ov_store.specs.Causes.{FailsToConnect, IsUnopened};
 ghost use Rattle.ov_store.specs.Refusing.{fault_of_open};
@@ -53,7 +54,8 @@ fn connect<D: Disk + Drop>(
     ensures new { IfOk result IsNew }
     ensures opened { IfOk result (λ c. HasCleanDisk (file_state c) → IsOpened c) }
     ensures found { IfOk result (λ c. HasCleanDisk (file_state c) → Finds files c) }
-    ensures sums { IfOk result (λ c. HasCleanDisk (file_state c) → IsBlankAs true (image_of D.Disk files) → IsTrue (view c.store).has_sums) }
+    ensures sums { IfOk result (λ c. HasCleanDisk (file_state c)
+        → IsBlankAs true (image_of D.Disk files) → IsTrue (view c.store).has_sums) }
     ensures cause { IfErr result (FailsToConnect D.Disk files) }
 {
     match Connection::open_files_with(alloc, files, options, true) {
@@ -81,8 +83,10 @@ pub(crate) fn open_file<S: Start>(
     requires { MayBeOpened path.now }
     ensures new { IfOk result IsNew }
     ensures opened { IfOk result (λ c. HasCleanDisk (file_state c) → IsOpened c) }
-    ensures found { IfOk result (λ c. HasCleanDisk (file_state c) → FindsIn (image_at S.Start) (file_state c)) }
-    ensures sums { IfOk result (λ c. HasCleanDisk (file_state c) → IsBlankAs true (image_at S.Start) → IsTrue (view c.store).has_sums) }
+    ensures found { IfOk result (λ c. HasCleanDisk (file_state c)
+        → FindsIn (image_at S.Start) (file_state c)) }
+    ensures sums { IfOk result (λ c. HasCleanDisk (file_state c) → IsBlankAs true (image_at S.Start)
+        → IsTrue (view c.store).has_sums) }
     ensures cause { IfErr result (IsUnopened ⟦<FileFrom<S> as Disk>⟧ path.now (image_at S.Start)) }
     ensures memory { path.now ≡ codes ":memory:" → result ≡ Err KeepFault.Device }
 {
@@ -102,11 +106,14 @@ pub fn store_in_file<S: Start>(
     schema: Text,
     start: S,
 ) -> Result<Store<FileStore<FileFrom<S>>>, KeepFault>
-    ensures found { IfOk result (λ s. HasCleanDisk (file_state s.connection) → (contents : _) → MayFind over_files s.connection contents
-        → (HasNoTable (image_at S.Start) × (contents ≡ new_contents schema)) ⊎ IsStoredIn (image_at S.Start) contents) }
+    ensures found { IfOk result (λ s. HasCleanDisk (file_state s.connection)
+        → (contents : _) → MayFind over_files s.connection contents
+        → (HasNoTable (image_at S.Start) × (contents ≡ new_contents schema))
+        ⊎ IsStoredIn (image_at S.Start) contents) }
     ensures of_format { IfOk result (IsOfItsFormat over_files) }
     ensures fresh { IfOk result (λ s. s.failures ≡ 0) }
-    ensures cause { IfErr result (IsPathRefused ⟦<FileFrom<S> as Disk>⟧ path.now (image_at S.Start) schema) }
+    ensures cause { IfErr result
+        (IsPathRefused ⟦<FileFrom<S> as Disk>⟧ path.now (image_at S.Start) schema) }
     ensures refused { IsFileRefused (image_at S.Start) schema result }
 {
     test_file(rt, path)?;
@@ -121,7 +128,8 @@ pub fn store_in_memory(
     alloc: Global,
     schema: Text,
 ) -> Result<Store<FileStore<MemoryDisk>>, KeepFault>
-    ensures found { IfOk result (λ s. (contents : _) → MayFind over_files s.connection contents → contents ≡ new_contents schema) }
+    ensures found { IfOk result (λ s. (contents : _) → MayFind over_files s.connection contents
+        → contents ≡ new_contents schema) }
     ensures of_format { IfOk result (IsOfItsFormat over_files) }
     ensures fresh { IfOk result (λ s. s.failures ≡ 0) }
     ensures honest { (s : _) → ⟦<Store<FileStore<MemoryDisk>> as Keeper>⟧.is_honest s }

@@ -20,8 +20,10 @@ fn read_tables<S: Alter>(alloc: Global, conn: &mut Connection<S>) -> Result<Load
     requires { conn.old.in_transaction ≡ false }
     ensures mode { conn.new.in_transaction ≡ false }
     ensures ok { HasCleanDisk (state S.Store conn.new)
-        → (text : _) → MayBeStored text (state S.Store conn.old) → IfOk result (HoldsLoaded (state S.Store conn.old)) }
-    ensures same { HasCleanDisk (state S.Store conn.new) → IsAsBefore (state S.Store conn.old) (state S.Store conn.new) }
+        → (text : _) → MayBeStored text (state S.Store conn.old)
+        → IfOk result (HoldsLoaded (state S.Store conn.old)) }
+    ensures same { HasCleanDisk (state S.Store conn.new)
+        → IsAsBefore (state S.Store conn.old) (state S.Store conn.new) }
     ensures survives { Survives (state S.Store conn.old) (state S.Store conn.new) (λ _. ⊥) }
 {
     // Its contract says that everything is committed.
@@ -36,7 +38,8 @@ impl<S: Alter> Store<S> {
             → IfOk result (λ loaded. (contents : _) → MayFind S.Store self.old.connection contents
             → contents ≡ loaded_contents loaded) }
         ensures same { HasCleanDisk (state S.Store self.new.connection)
-            → LeavesNoMore (MayFind S.Store self.old.connection) (MayFind S.Store self.new.connection) }
+            → LeavesNoMore (MayFind S.Store self.old.connection)
+            (MayFind S.Store self.new.connection) }
         ensures same_format { self.new.format ≡ self.old.format }
         ensures of_format { HasCleanDisk (state S.Store self.new.connection)
             → IfOk result (λ loaded. format_of (lines_view loaded.lines) ≡ self.new.format) }

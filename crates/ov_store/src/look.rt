@@ -65,8 +65,10 @@ fn test_real(rt: &HostRuntime, db: &str) -> Result<(), KeepFault>
 
 /// Opens the copies as files are opened, and passes only what is not foreign.
 fn test_copies(alloc: Global, copies: Copies) -> Result<(), KeepFault>
-    ensures passes { OnOk result (IsNobodyElses (record { log = copies.log.items; db = copies.db.items })) }
-    ensures refused { IfErr result (IsCopyRefused (record { log = copies.log.items; db = copies.db.items })) }
+    ensures passes { OnOk result
+        (IsNobodyElses (record { log = copies.log.items; db = copies.db.items })) }
+    ensures refused { IfErr result
+        (IsCopyRefused (record { log = copies.log.items; db = copies.db.items })) }
 {
     let Copies { log, db } = copies;
     let files = Files {
@@ -83,16 +85,20 @@ fn test_copies(alloc: Global, copies: Copies) -> Result<(), KeepFault>
 ///
 /// It is a function of its own for the same reason as `store_over_files`.
 fn test_over_files<D: Disk + Drop>(connection: Connection<FileStore<D>>) -> Result<(), KeepFault>
-    ensures passes { OnOk result ((connection.schema ≡ no_schema) ⊎ HasOurTables connection.schema) }
-    ensures foreign { IfErr result (λ fault. (fault ≡ KeepFault.NotOurs) × (connection.schema ≢ no_schema) × (¬ HasOurTables connection.schema)) }
+    ensures passes { OnOk result ((connection.schema ≡ no_schema)
+        ⊎ HasOurTables connection.schema) }
+    ensures foreign { IfErr result (λ fault. (fault ≡ KeepFault.NotOurs)
+        × (connection.schema ≢ no_schema) × (¬ HasOurTables connection.schema)) }
 {
     test_over(connection)
 }
 
 /// The same over any store.
 fn test_over<S: Alter + Drop>(connection: Connection<S>) -> Result<(), KeepFault>
-    ensures passes { OnOk result ((connection.schema ≡ no_schema) ⊎ HasOurTables connection.schema) }
-    ensures foreign { IfErr result (λ fault. (fault ≡ KeepFault.NotOurs) × (connection.schema ≢ no_schema) × (¬ HasOurTables connection.schema)) }
+    ensures passes { OnOk result ((connection.schema ≡ no_schema)
+        ⊎ HasOurTables connection.schema) }
+    ensures foreign { IfErr result (λ fault. (fault ≡ KeepFault.NotOurs)
+        × (connection.schema ≢ no_schema) × (¬ HasOurTables connection.schema)) }
 {
     test_schema(connection.schema())
 }
@@ -100,7 +106,8 @@ fn test_over<S: Alter + Drop>(connection: Connection<S>) -> Result<(), KeepFault
 /// Refuses a schema that is neither blank nor ours.
 fn test_schema(schema: &Schema) -> Result<(), KeepFault>
     ensures passes { OnOk result ((schema.now ≡ no_schema) ⊎ HasOurTables schema.now) }
-    ensures foreign { IfErr result (λ fault. (fault ≡ KeepFault.NotOurs) × (schema.now ≢ no_schema) × (¬ HasOurTables schema.now)) }
+    ensures foreign { IfErr result (λ fault. (fault ≡ KeepFault.NotOurs) × (schema.now ≢ no_schema)
+        × (¬ HasOurTables schema.now)) }
 {
     if is_blank(schema) || is_ours(schema) {
         Ok(())

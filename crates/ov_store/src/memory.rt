@@ -3,7 +3,8 @@ ghost use Rattle.sqlite.specs.Files.{file_state, image_of, Finds, IsOpened};
 ghost use Rattle.sqlite.specs.Held.{IsNew};
 ghost use Rattle.sqlite.specs.State.{HasCleanDisk};
 ghost use Rattle.sqlite.specs.Steps.{IsEmpty};
-ghost use Rattle.ov_store.specs.Causes.{error_in_memory, FailsInMemory, FailsToBegin, IsErrorInMemory};
+ghost use Rattle.ov_store.specs.Causes.{error_in_memory, FailsInMemory, FailsToBegin};
+ghost use Rattle.ov_store.specs.Causes.{IsErrorInMemory};
 
 use crate::memory_disk::MemoryDisk;
 use sqlite::{Connection, Error, ErrorCode, FileStore, Files, Options};
@@ -32,7 +33,8 @@ pub(crate) fn open_memory_files(
     ensures opened { IfOk result (λ c. HasCleanDisk (file_state c) → IsOpened c) }
     ensures found { IfOk result (λ c. HasCleanDisk (file_state c) → Finds files c) }
     ensures told { IfErr result (IsErrorInMemory (image_of ⟦<MemoryDisk as Disk>⟧ files)) }
-    ensures cause { IfErr result (FailsInMemory ⟦<MemoryDisk as Disk>⟧ (image_of ⟦<MemoryDisk as Disk>⟧ files)) }
+    ensures cause { IfErr result
+        (FailsInMemory ⟦<MemoryDisk as Disk>⟧ (image_of ⟦<MemoryDisk as Disk>⟧ files)) }
 {
     match Connection::open_files(alloc, files, Options::new(1)) {
         Ok(opened) => Ok(opened),

@@ -23,13 +23,19 @@ use std::alloc::Global;
 fn make_new<S: Alter>(conn: &mut Connection<S>, schema: &Text) -> Result<(), KeepFault>
     requires { conn.old.in_transaction ≡ false }
     ensures mode { conn.new.in_transaction ≡ false }
-    ensures ok { HasCleanDisk (state S.Store conn.new) → MayMake (state S.Store conn.old) → OnOk result (IsNew schema.now (state S.Store conn.old) (state S.Store conn.new)) }
+    ensures ok { HasCleanDisk (state S.Store conn.new) → MayMake (state S.Store conn.old)
+        → OnOk result (IsNew schema.now (state S.Store conn.old) (state S.Store conn.new)) }
     ensures honest { HasCleanDisk (state S.Store conn.new) → HasCleanDisk (state S.Store conn.old) }
     ensures kinds { IfErr result IsCommitFault }
     ensures told { IfErr result (WasAnswered Making) }
-    ensures same { HasCleanDisk (state S.Store conn.new) → OnErr result (IsAsBefore (state S.Store conn.old) (state S.Store conn.new)) }
+    ensures same { HasCleanDisk (state S.Store conn.new)
+        → OnErr result (IsAsBefore (state S.Store conn.old) (state S.Store conn.new)) }
     ensures left { MayMake (state S.Store conn.old)
-        → IfErr result (λ fault. Survives (state S.Store conn.old) (state S.Store conn.new) (λ trees. (fault ≡ KeepFault.Device) × IsNewBeside schema.now (state S.Store conn.old) trees)) }
+        → IfErr result
+        (λ fault. Survives (state S.Store conn.old) (state S.Store conn.new)
+        (λ trees. (fault
+        ≡ KeepFault.Device)
+        × IsNewBeside schema.now (state S.Store conn.old) trees)) }
 {
     let Err(failure) = make_tables(conn, schema) else {
         return Ok(());
@@ -57,18 +63,29 @@ impl<S: Alter + Drop> Store<S> {
     pub fn create(mut connection: Connection<S>, schema: Text) -> Result<Store<S>, Unopened<S>>
         requires { connection.in_transaction ≡ false }
         ensures ok { IfOk result (λ s. HasCleanDisk (state S.Store s.connection)
-            → (contents : _) → MayFind S.Store s.connection contents → contents ≡ new_contents schema) }
+            → (contents : _) → MayFind S.Store s.connection contents
+            → contents ≡ new_contents schema) }
         ensures of_format { IfOk result (IsOfItsFormat S.Store) }
-        ensures honest { IfOk result (λ s. HasCleanDisk (state S.Store s.connection) → HasCleanDisk (state S.Store connection)) }
+        ensures honest { IfOk result (λ s. HasCleanDisk (state S.Store s.connection)
+            → HasCleanDisk (state S.Store connection)) }
         ensures fresh { IfOk result (λ s. s.failures ≡ 0) }
         ensures room { IfOk result (λ s. HasRoom connection.schema) }
-        ensures beside { IfOk result (λ s. HasCleanDisk (state S.Store s.connection) → s.connection.schema ≡ with_ours connection.schema) }
-        ensures others { IfOk result (λ s. HasCleanDisk (state S.Store s.connection) → LeavesTables S.Store connection s.connection) }
-        ensures ours { IfErr result (λ e. (e.fault ≡ KeepFault.NotOurs) ↔ (¬ HasRoom connection.schema)) }
-        ensures told { IfErr result (λ e. (e.fault ≡ KeepFault.NotOurs) ⊎ WasAnswered Making e.fault) }
+        ensures beside { IfOk result (λ s. HasCleanDisk (state S.Store s.connection)
+            → s.connection.schema ≡ with_ours connection.schema) }
+        ensures others { IfOk result (λ s. HasCleanDisk (state S.Store s.connection)
+            → LeavesTables S.Store connection s.connection) }
+        ensures ours { IfErr result (λ e. (e.fault ≡ KeepFault.NotOurs)
+            ↔ (¬ HasRoom connection.schema)) }
+        ensures told { IfErr result (λ e. (e.fault ≡ KeepFault.NotOurs)
+            ⊎ WasAnswered Making e.fault) }
         ensures format { IfErr result (λ e. e.fault ≢ KeepFault.Format) }
-        ensures same { IfErr result (λ e. HasCleanDisk (state S.Store e.connection) → IsAsBefore (state S.Store connection) (state S.Store e.connection)) }
-        ensures left { IfErr result (λ e. Survives (state S.Store connection) (state S.Store e.connection) (λ trees. (e.fault ≡ KeepFault.Device) × IsNewBeside schema (state S.Store connection) trees)) }
+        ensures same { IfErr result (λ e. HasCleanDisk (state S.Store e.connection)
+            → IsAsBefore (state S.Store connection) (state S.Store e.connection)) }
+        ensures left { IfErr result
+            (λ e. Survives (state S.Store connection) (state S.Store e.connection)
+            (λ trees. (e.fault
+            ≡ KeepFault.Device)
+            × IsNewBeside schema (state S.Store connection) trees)) }
     {
         if !has_room(connection.schema()) {
             return Err(Unopened {
@@ -95,10 +112,14 @@ impl<S: Alter + Drop> Store<S> {
         requires { connection.in_transaction ≡ false }
         ensures ok { IfOk result (λ s. HasCleanDisk (state S.Store s.connection)
             → IsFormat (text_in (state S.Store connection).now) (state S.Store connection).now) }
-        ensures same { IfOk result (λ s. HasCleanDisk (state S.Store s.connection) → IsAsBefore (state S.Store connection) (state S.Store s.connection)) }
-        ensures survives { IfOk result (λ s. Survives (state S.Store connection) (state S.Store s.connection) (λ _. ⊥)) }
-        ensures same_refused { IfErr result (λ e. HasCleanDisk (state S.Store e.connection) → IsAsBefore (state S.Store connection) (state S.Store e.connection)) }
-        ensures survives_refused { IfErr result (λ e. Survives (state S.Store connection) (state S.Store e.connection) (λ _. ⊥)) }
+        ensures same { IfOk result (λ s. HasCleanDisk (state S.Store s.connection)
+            → IsAsBefore (state S.Store connection) (state S.Store s.connection)) }
+        ensures survives { IfOk result
+            (λ s. Survives (state S.Store connection) (state S.Store s.connection) (λ _. ⊥)) }
+        ensures same_refused { IfErr result (λ e. HasCleanDisk (state S.Store e.connection)
+            → IsAsBefore (state S.Store connection) (state S.Store e.connection)) }
+        ensures survives_refused { IfErr result
+            (λ e. Survives (state S.Store connection) (state S.Store e.connection) (λ _. ⊥)) }
         ensures of_format { IfOk result (IsOfItsFormat S.Store) }
         ensures fresh { IfOk result (λ s. s.failures ≡ 0) }
         ensures tables { IfOk result (λ s. HasOurTables connection.schema) }
@@ -109,8 +130,11 @@ impl<S: Alter + Drop> Store<S> {
         ensures told { IfErr result (λ e.
             ((e.fault ≡ KeepFault.NotOurs) × (¬ HasOurTables connection.schema))
             ⊎ (HasOurTables connection.schema × WasAnswered Testing e.fault)) }
-        ensures format_tables { IfErr result (λ e. e.fault ≡ KeepFault.Format → HasOurTables connection.schema) }
-        ensures format { IfErr result (λ e. HasCleanDisk (state S.Store e.connection) → e.fault ≡ KeepFault.Format → (text : _) → ¬ IsFormat text (state S.Store connection).now) }
+        ensures format_tables { IfErr result (λ e. e.fault ≡ KeepFault.Format
+            → HasOurTables connection.schema) }
+        ensures format { IfErr result (λ e. HasCleanDisk (state S.Store e.connection)
+            → e.fault ≡ KeepFault.Format
+            → (text : _) → ¬ IsFormat text (state S.Store connection).now) }
     {
         if !is_ours(connection.schema()) {
             return Err(Unopened {

@@ -46,7 +46,8 @@ fn store_or_fault<S: Alter + Drop>(
     ensures store { IfOk result (IsStoreOf S.Store schema connection) }
     ensures of_format { IfOk result (IsOfItsFormat S.Store) }
     ensures fresh { IfOk result (λ s. s.failures ≡ 0) }
-    ensures refused { IfErr result (λ fault. (left : _) × IsRefused S.Store schema connection left fault) }
+    ensures refused { IfErr result (λ fault. (left : _)
+        × IsRefused S.Store schema connection left fault) }
 {
     match store_over(alloc, connection, schema) {
         Ok(store) => Ok(store),
@@ -67,7 +68,8 @@ pub(crate) fn store_over_files<D: Disk + Drop>(
     ensures store { IfOk result (IsStoreOf over_files schema connection) }
     ensures of_format { IfOk result (IsOfItsFormat over_files) }
     ensures fresh { IfOk result (λ s. s.failures ≡ 0) }
-    ensures refused { IfErr result (λ fault. (left : _) × IsRefused over_files schema connection left fault) }
+    ensures refused { IfErr result (λ fault. (left : _)
+        × IsRefused over_files schema connection left fault) }
 {
     store_or_fault(alloc, connection, schema)
 }
@@ -91,7 +93,8 @@ fn open<S: Alter + Drop>(alloc: Global, connection: Connection<S>) -> Result<Sto
     ensures store { IfOk result (IsOldStore S.Store connection) }
     ensures of_format { IfOk result (IsOfItsFormat S.Store) }
     ensures fresh { IfOk result (λ s. s.failures ≡ 0) }
-    ensures refused { IfErr result (λ e. (text : _) → IsRefused S.Store text connection e.connection e.fault) }
+    ensures refused { IfErr result (λ e. (text : _)
+        → IsRefused S.Store text connection e.connection e.fault) }
 {
     Store::open(alloc, connection)
 }

@@ -17,7 +17,8 @@ pub(crate) fn open_pair<S: Start>(
     path: &str,
     start: S,
 ) -> Result<Files<FileFrom<S>>, KeepFault>
-    ensures usable { IfOk result (λ files. IsTrue (file_is_usable S.Start files.log) × IsTrue (file_is_usable S.Start files.db)) }
+    ensures usable { IfOk result (λ files. IsTrue (file_is_usable S.Start files.log)
+        × IsTrue (file_is_usable S.Start files.db)) }
     ensures fresh { IfOk result (λ files. IsFresh true files.log × IsFresh false files.db) }
     ensures refused { IfErr result (IsPairRefused path.now) }
     ensures memory { path.now ≡ codes ":memory:" → result ≡ Err KeepFault.Device }

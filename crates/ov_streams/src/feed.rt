@@ -23,7 +23,8 @@ pub fn feed_session<K: Keeper + Drop, D: Draws + Drop>(
     piece: &[u8],
 )
     requires { is_open core.old.state session.serial ≡ true }
-    ensures enters { (stream : List ℕ) → IsFed stream cutter.old → EntersPiece moment session.serial stream piece.now core.old core.new cutter.new }
+    ensures enters { (stream : List ℕ) → IsFed stream cutter.old
+        → EntersPiece moment session.serial stream piece.now core.old core.new cutter.new }
     ensures honest { K.is_honest core.new.keeper → K.is_honest core.old.keeper }
 {
     let Fed { messages, fault } = cutter.feed(alloc, piece);

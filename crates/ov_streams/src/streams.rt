@@ -1,5 +1,8 @@
-ghost use Rattle.std.specs.Prelude.{◌≡◌, ◌≢◌, ◌≤◌, ◌++◌, ℕ, List, [], ◌∷◌, MatchResult, IfOk, OnOk, OnErr, IfSome, IfNone, IsSomeAnd, length, take, slice_get, Some};
-ghost use Rattle.ov_specs.specs.machine.Machine.{Entry, opening, Open as SpecOpen, Tick as SpecTick};
+ghost use Rattle.std.specs.Prelude.{◌≡◌, ◌≢◌, ◌≤◌, ◌++◌, ℕ, List, [], ◌∷◌, MatchResult, IfOk, OnOk};
+ghost use Rattle.std.specs.Prelude.{OnErr, IfSome, IfNone, IsSomeAnd, length, take, slice_get};
+ghost use Rattle.std.specs.Prelude.{Some};
+ghost use Rattle.ov_specs.specs.machine.Machine.{Entry, opening, Open as SpecOpen};
+ghost use Rattle.ov_specs.specs.machine.Machine.{Tick as SpecTick};
 ghost use Rattle.ov_specs.specs.schema.SchemaTypes.{Schema};
 ghost use Rattle.ov_specs.specs.rows.Database.{Database};
 ghost use Rattle.ov_specs.specs.machine.History.{joined};
@@ -7,7 +10,8 @@ ghost use Rattle.ov_specs.specs.machine.Streams.{StreamEvent as SpecEvent};
 ghost use Rattle.ov_core.specs.Following.{Follows, none_given, and_all_handed};
 ghost use Rattle.ov_outbox.specs.Frames.{waiting_for};
 ghost use Rattle.ov_core.specs.Stepping.{RefusesStep};
-ghost use Rattle.ov_streams.specs.Running.{FollowsEvents, RunsEvents, RefusesEvent, stream_event_view, stream_events_view};
+ghost use Rattle.ov_streams.specs.Running.{FollowsEvents, RunsEvents, RefusesEvent};
+ghost use Rattle.ov_streams.specs.Running.{stream_event_view, stream_events_view};
 
 use crate::event::{Ran, StreamEvent};
 use crate::feed::feed_session;
@@ -47,7 +51,9 @@ impl<K: Keeper + Drop, D: Draws + Drop> Streams<K, D> {
     pub fn new(alloc: Global, core: Core<K, D>) -> Streams<K, D>
         ensures same { result.core ≡ core }
         // The empty list of events suits it.
-        ensures none { (schema : Schema) (database : Database) → Follows (opening schema database) [] none_given core → FollowsEvents schema database [] [] none_given result }
+        ensures none { (schema : Schema) (database : Database)
+            → Follows (opening schema database) [] none_given core
+            → FollowsEvents schema database [] [] none_given result }
     {
         Streams {
             core,
@@ -66,10 +72,13 @@ impl<K: Keeper + Drop, D: Draws + Drop> Streams<K, D> {
     pub fn run(&mut self, alloc: Global, events: Vec<StreamEvent>) -> Ran
         ensures served { result.served ≤ length events.items }
         // Whatever list suited before, it now suits with the served events appended.
-        ensures suits { RunsEvents (stream_events_view (take result.served events.items)) self.old self.new }
+        ensures suits { RunsEvents (stream_events_view (take result.served events.items)) self.old
+            self.new }
         ensures whole { IfNone result.refused (result.served ≡ length events.items) }
         // An event follows those that were served, and its step from where they led is refused for this fault.
-        ensures refused { IfSome result.refused (λ fault. IsSomeAnd (slice_get events.items result.served) (λ event. RefusesEvent event self.new.core.state fault)) }
+        ensures refused { IfSome result.refused
+            (λ fault. IsSomeAnd (slice_get events.items result.served)
+            (λ event. RefusesEvent event self.new.core.state fault)) }
         ensures honest { K.is_honest self.new.core.keeper → K.is_honest self.old.core.keeper }
     {
         let mut served = 0;
@@ -91,12 +100,19 @@ impl<K: Keeper + Drop, D: Draws + Drop> Streams<K, D> {
     /// Hands out and joins the frames that wait for session n; none if an allocation fails.
     pub fn output(&mut self, alloc: Global, session: u64) -> Result<Bytes, AllocError>
         ensures all { IfOk result (λ b. b ≡ joined (waiting_for session self.old.core.outbox)) }
-        ensures handed { IfOk result (λ b. (schema : Schema) (database : Database) (list : List SpecEvent) (history : List Entry) (given : ℕ → List (List ℕ)) → FollowsEvents schema database list history given self.old
-            → FollowsEvents schema database list history (and_all_handed given session (waiting_for session self.old.core.outbox)) self.new) }
+        ensures handed { IfOk result
+            (λ b. (schema : Schema) (database : Database) (list : List SpecEvent)
+            (history : List Entry) (given : ℕ → List (List ℕ))
+            → FollowsEvents schema database list history given self.old
+            → FollowsEvents schema database list history
+            (and_all_handed given session (waiting_for session self.old.core.outbox))
+            self.new) }
         // Nothing else is changed, but for what waits for this session.
         ensures none_left { OnOk result (waiting_for session self.new.core.outbox ≡ []) }
-        ensures others { OnOk result ((other : ℕ) → other ≢ session → waiting_for other self.new.core.outbox ≡ waiting_for other self.old.core.outbox) }
-        ensures same { OnOk result (self.new ≡ record self.old { core = record self.old.core { outbox = self.new.core.outbox } }) }
+        ensures others { OnOk result ((other : ℕ) → other ≢ session
+            → waiting_for other self.new.core.outbox ≡ waiting_for other self.old.core.outbox) }
+        ensures same { OnOk result (self.new
+            ≡ record self.old { core = record self.old.core { outbox = self.new.core.outbox } }) }
         // If an allocation fails, nothing was handed out.
         ensures refused { OnErr result (self.new ≡ self.old) }
     {
@@ -113,7 +129,8 @@ impl<K: Keeper + Drop, D: Draws + Drop> Streams<K, D> {
     fn serve(&mut self, alloc: Global, event: &StreamEvent) -> Result<(), StepFault>
         ensures serves { MatchResult result
             (λ _. RunsEvents (stream_event_view event.now ∷ []) self.old self.new)
-            (λ fault. RunsEvents [] self.old self.new × RefusesEvent event.now self.new.core.state fault) }
+            (λ fault. RunsEvents [] self.old self.new
+            × RefusesEvent event.now self.new.core.state fault) }
         ensures honest { K.is_honest self.new.core.keeper → K.is_honest self.old.core.keeper }
     {
         match event {
@@ -140,7 +157,8 @@ impl<K: Keeper + Drop, D: Draws + Drop> Streams<K, D> {
     fn open(&mut self, alloc: Global) -> Result<(), StepFault>
         ensures serves { MatchResult result
             (λ _. RunsEvents (stream_event_view StreamEvent.Open ∷ []) self.old self.new)
-            (λ fault. RunsEvents [] self.old self.new × RefusesStep SpecOpen self.new.core.state fault) }
+            (λ fault. RunsEvents [] self.old self.new
+            × RefusesStep SpecOpen self.new.core.state fault) }
         ensures honest { K.is_honest self.new.core.keeper → K.is_honest self.old.core.keeper }
     {
         let Some(serial) = self.core.next_serial() else {
@@ -160,7 +178,8 @@ impl<K: Keeper + Drop, D: Draws + Drop> Streams<K, D> {
     fn tick(&mut self, alloc: Global, moment: u64) -> Result<(), StepFault>
         ensures serves { MatchResult result
             (λ _. RunsEvents (stream_event_view (StreamEvent.Tick moment) ∷ []) self.old self.new)
-            (λ fault. RunsEvents [] self.old self.new × RefusesStep SpecTick self.new.core.state fault) }
+            (λ fault. RunsEvents [] self.old self.new
+            × RefusesStep SpecTick self.new.core.state fault) }
         ensures honest { K.is_honest self.new.core.keeper → K.is_honest self.old.core.keeper }
     {
         self.core.tick(alloc, moment)?;
@@ -169,7 +188,8 @@ impl<K: Keeper + Drop, D: Draws + Drop> Streams<K, D> {
 
     /// Closes the session, whose bytes ended, if it is open.
     fn finish(&mut self, session: u64)
-        ensures serves { RunsEvents (stream_event_view (StreamEvent.Finish session) ∷ []) self.old self.new }
+        ensures serves { RunsEvents (stream_event_view (StreamEvent.Finish session) ∷ []) self.old
+            self.new }
         ensures honest { K.is_honest self.new.core.keeper → K.is_honest self.old.core.keeper }
     {
         let session = session_of(session);
@@ -180,7 +200,8 @@ impl<K: Keeper + Drop, D: Draws + Drop> Streams<K, D> {
 
     /// Feeds the session, if it is open.
     fn feed(&mut self, alloc: Global, session: u64, bytes: &[u8])
-        ensures serves { RunsEvents (stream_event_view (StreamEvent.Feed session bytes.now) ∷ []) self.old self.new }
+        ensures serves { RunsEvents (stream_event_view (StreamEvent.Feed session bytes.now) ∷ [])
+            self.old self.new }
         ensures honest { K.is_honest self.new.core.keeper → K.is_honest self.old.core.keeper }
     {
         let owner = session_of(session);

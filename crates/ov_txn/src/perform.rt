@@ -48,7 +48,9 @@ fn failed(
     error: OpError,
     others: &[Value],
 ) -> Result<ArrayText, AllocError>
-    ensures { IfOk result (λ r. r ≡ nulls_after (and_item results (spec.error_tree (error_view error))) (items_view others.now)) }
+    ensures { IfOk result (λ r. r
+        ≡ nulls_after (and_item results (spec.error_tree (error_view error)))
+        (items_view others.now)) }
 {
     let mut results = results;
     results.push(alloc, error_tree(alloc, error)?.into())?;
@@ -79,7 +81,12 @@ fn end(
     requires linked { AreLinksOf schema.now stage.before links.now }
     requires indexed { AreIndexesOf schema.now stage.before indexes.now }
     requires suits { Suits schema.now stage.now }
-    ensures { IfOk result (IsPerformed (prefixed results (ended stage.entry.before (committed schema.now stage.entry.before version stage.entry.now))) stage.entry.before) }
+    ensures { IfOk result
+        (IsPerformed
+        (prefixed results
+        (ended stage.entry.before
+        (committed schema.now stage.entry.before version stage.entry.now)))
+        stage.entry.before) }
 {
     match finish(alloc, schema, version, links, indexes, stage) {
         Finished::Changed(delta) => Ok(Performed::Completed(results, delta)),
@@ -104,7 +111,11 @@ fn perform_operations<O: Owns>(
     requires whole { is_whole schema.now rows.now ≡ true }
     requires linked { AreLinksOf schema.now rows.now links.now }
     requires indexed { AreIndexesOf schema.now rows.now indexes.now }
-    ensures { IfOk result (IsPerformed (transaction schema.now rows.now (O.owned owns.now) txn.now.draws age txn.now.operations) rows.now) }
+    ensures { IfOk result
+        (IsPerformed
+        (transaction schema.now rows.now (O.owned owns.now) txn.now.draws age
+        txn.now.operations)
+        rows.now) }
 {
     let mut results = ArrayText::new(alloc);
     let mut stage = Stage::with_indexes(alloc, schema, rows, indexes);
@@ -157,7 +168,11 @@ pub(crate) fn perform<O: Owns>(
     requires whole { is_whole schema.now rows.now ≡ true }
     requires linked { AreLinksOf schema.now rows.now links.now }
     requires indexed { AreIndexesOf schema.now rows.now indexes.now }
-    ensures performed { IfOk result (IsPerformed (transaction schema.now rows.now (O.owned owns.now) txn.now.draws age txn.now.operations) rows.now) }
+    ensures performed { IfOk result
+        (IsPerformed
+        (transaction schema.now rows.now (O.owned owns.now) txn.now.draws age
+        txn.now.operations)
+        rows.now) }
     ensures suits { IfOk result (SuitsPerformed schema.now) }
     ensures whole { IfOk result (WholePerformed schema.now rows.now) }
 {

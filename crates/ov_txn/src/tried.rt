@@ -39,7 +39,11 @@ fn perform_on<K: Keeper + Drop, O: Owns>(
     owns: &O,
     age: u64,
 ) -> Result<Performed, AllocError>
-    ensures performed { IfOk result (IsPerformed (transaction db.now.schema db.now.committed (O.owned owns.now) txn.now.draws age txn.now.operations) db.now.committed) }
+    ensures performed { IfOk result
+        (IsPerformed
+        (transaction db.now.schema db.now.committed (O.owned owns.now) txn.now.draws age
+        txn.now.operations)
+        db.now.committed) }
     ensures suits { IfOk result (SuitsPerformed db.now.schema) }
     ensures whole { IfOk result (WholePerformed db.now.schema db.now.committed) }
 {
@@ -73,7 +77,10 @@ pub fn attempt<K: Keeper + Drop, O: Owns, R: Ready<K>>(
     tries: &mut Tries,
     ready: &mut R,
 ) -> Tried
-    ensures tried { IsTried R.readies (transaction db.old.schema db.old.committed (O.owned owns.now) txn.now.draws age txn.now.operations) db.old ready.old result db.new ready.new }
+    ensures tried { IsTried R.readies
+        (transaction db.old.schema db.old.committed (O.owned owns.now) txn.now.draws age
+        txn.now.operations)
+        db.old ready.old result db.new ready.new }
     ensures cause { HasCause K.failed result db.old db.new }
     ensures counts { K.failed db.old.keeper ≤ K.failed db.new.keeper }
     ensures honest { K.is_honest db.new.keeper → K.is_honest db.old.keeper }

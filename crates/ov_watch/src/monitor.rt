@@ -39,7 +39,9 @@ fn put_table(
     table: &MonitoredTable,
     rows: Object,
 ) -> Result<(), AllocError>
-    ensures { (xs : List (List ℕ × Data)) → rows ≡ placed no_members xs → OnOk result (told.new ≡ placed told.old (option_to_list (spec.under_table table.now.table xs))) }
+    ensures { (xs : List (List ℕ × Data)) → rows ≡ placed no_members xs
+        → OnOk result (told.new
+        ≡ placed told.old (option_to_list (spec.under_table table.now.table xs))) }
 {
     if rows.is_empty() {
         return Ok(());
@@ -67,7 +69,10 @@ impl Monitor {
         rows: &Rows,
         delta: &Delta,
     ) -> Result<Object, AllocError>
-        ensures { IfOk result (λ o. o ≡ placed no_members (spec.table_updates (spec.updated_rows rows.now (applied delta.now rows.now)) self.now)) }
+        ensures { IfOk result (λ o. o
+            ≡ placed no_members
+            (spec.table_updates (spec.updated_rows rows.now (applied delta.now rows.now))
+            self.now)) }
     {
         let mut told = Object::new(alloc);
         for table in &self.tables {
@@ -79,7 +84,8 @@ impl Monitor {
 
     /// What it reports of these changes, if anything (RFC 7047, 4.1.6).
     fn updates(&self, alloc: Global, rows: &Rows, delta: &Delta) -> Result<Option<Tree>, AllocError>
-        ensures { IfOk result (λ o. o ≡ spec.updates rows.now (applied delta.now rows.now) self.now) }
+        ensures { IfOk result (λ o. o
+            ≡ spec.updates rows.now (applied delta.now rows.now) self.now) }
     {
         let told = self.updated_tables(alloc, rows, delta)?;
         if told.is_empty() {
@@ -95,7 +101,9 @@ impl Monitor {
         rows: &Rows,
         delta: &Delta,
     ) -> Result<Option<Trees>, AllocError>
-        ensures { IfOk result (λ o. o ≡ option_map (spec.update_params self.now) (spec.updates rows.now (applied delta.now rows.now) self.now)) }
+        ensures { IfOk result (λ o. o
+            ≡ option_map (spec.update_params self.now)
+            (spec.updates rows.now (applied delta.now rows.now) self.now)) }
     {
         let Some(told) = self.updates(alloc, rows, delta)? else {
             return Ok(None);

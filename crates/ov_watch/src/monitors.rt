@@ -69,7 +69,8 @@ impl Monitors {
         id: Tree,
         requests: &Value,
     ) -> Result<(), WatchFault>
-        ensures added { IsWatchResult (λ _. self.new) (spec.added schema.now self.old id (view requests.now)) result }
+        ensures added { IsWatchResult (λ _. self.new)
+            (spec.added schema.now self.old id (view requests.now)) result }
         ensures err { OnErr result (self.new ≡ self.old) }
     {
         let Some(asked) = read_requests(alloc, requests)? else {
@@ -114,7 +115,8 @@ impl Monitors {
         db: &Db<K>,
         id: &Tree,
     ) -> Result<Option<Tree>, AllocError>
-        ensures { IfOk result (λ o. o ≡ option_map (initial db.now.committed) (find (spec.is_named id.now) self.now)) }
+        ensures { IfOk result (λ o. o
+            ≡ option_map (initial db.now.committed) (find (spec.is_named id.now) self.now)) }
     {
         let name = name_of(alloc, id)?;
         match self.monitors.get(name.as_str()) {
@@ -131,7 +133,8 @@ impl Monitors {
         db: &Db<K>,
         delta: &Delta,
     ) -> Result<Vec<Trees>, AllocError>
-        ensures { IfOk result (λ v. v.items ≡ all_updates db.now.committed (applied delta.now db.now.committed) self.now) }
+        ensures { IfOk result (λ v. v.items
+            ≡ all_updates db.now.committed (applied delta.now db.now.committed) self.now) }
     {
         let rows = db.rows();
         let mut updates = Vec::new(alloc);

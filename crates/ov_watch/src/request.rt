@@ -88,7 +88,11 @@ impl MonitorRequest {
 
 /// Reads a request from an object.
 fn request_in(alloc: Global, tree: &Value) -> Result<Option<MonitorRequest>, AllocError>
-    ensures { IfOk result (λ o. o ≡ option_and_then (λ columns. spec.with_columns columns (spec.select_read (find.get (codes "select") (view tree.now)))) (spec.columns_read (find.get (codes "columns") (view tree.now)))) }
+    ensures { IfOk result (λ o. o
+        ≡ option_and_then
+        (λ columns. spec.with_columns columns
+        (spec.select_read (find.get (codes "select") (view tree.now))))
+        (spec.columns_read (find.get (codes "columns") (view tree.now)))) }
 {
     let Some(columns) = chosen_columns(alloc, tree.get("columns"))? else {
         return Ok(None);
@@ -101,7 +105,8 @@ fn request_in(alloc: Global, tree: &Value) -> Result<Option<MonitorRequest>, All
 
 /// The columns chosen by a member `columns`, which may be left out; `None` if it is malformed.
 fn chosen_columns(alloc: Global, tree: Option<&Value>) -> Result<Option<ColumnChoice>, AllocError>
-    ensures { IfOk result (λ o. option_map choice_view o ≡ spec.columns_read (option_map view (option_copied tree.entry))) }
+    ensures { IfOk result (λ o. option_map choice_view o
+        ≡ spec.columns_read (option_map view (option_copied tree.entry))) }
 {
     let Some(tree) = tree else {
         return Ok(Some(ColumnChoice::NotNamed));
@@ -123,7 +128,8 @@ fn texts_of(alloc: Global, tree: &Value) -> Result<Option<Vec<Text>>, AllocError
 }
 
 fn each_text(alloc: Global, items: &[Value]) -> Result<Option<Vec<Text>>, AllocError>
-    ensures { IfOk result (λ o. option_map (λ v. v.items) o ≡ each_read as_str (items_view items.now)) }
+    ensures { IfOk result (λ o. option_map (λ v. v.items) o
+        ≡ each_read as_str (items_view items.now)) }
 {
     let mut texts = Vec::new(alloc);
     for item in items {

@@ -48,7 +48,8 @@ fn each_table(
     alloc: Global,
     members: &Map<String, Value>,
 ) -> Result<Option<Vec<TableRequests>>, AllocError>
-    ensures { IfOk result (λ o. option_map (λ v. v.items) o ≡ spec.each_table_read (members_view members.now.entries)) }
+    ensures { IfOk result (λ o. option_map (λ v. v.items) o
+        ≡ spec.each_table_read (members_view members.now.entries)) }
 {
     let mut tables = Vec::new(alloc);
     for (name, tree) in members.iter() {
@@ -65,7 +66,8 @@ fn each_table(
 
 /// The requests for a table, which name no column twice.
 fn table_requests(alloc: Global, tree: &Value) -> Result<Option<Vec<MonitorRequest>>, AllocError>
-    ensures { IfOk result (λ o. option_map (λ v. v.items) o ≡ spec.table_requests_read (view tree.now)) }
+    ensures { IfOk result (λ o. option_map (λ v. v.items) o
+        ≡ spec.table_requests_read (view tree.now)) }
 {
     let Some(requests) = one_or_each(alloc, tree)? else {
         return Ok(None);
@@ -77,7 +79,8 @@ fn table_requests(alloc: Global, tree: &Value) -> Result<Option<Vec<MonitorReque
 }
 
 fn one_or_each(alloc: Global, tree: &Value) -> Result<Option<Vec<MonitorRequest>>, AllocError>
-    ensures { IfOk result (λ o. option_map (λ v. v.items) o ≡ spec.one_or_each (as_array (view tree.now)) (view tree.now)) }
+    ensures { IfOk result (λ o. option_map (λ v. v.items) o
+        ≡ spec.one_or_each (as_array (view tree.now)) (view tree.now)) }
 {
     match tree.as_array() {
         Some(items) => each_request(alloc, items.as_slice()),
@@ -86,7 +89,8 @@ fn one_or_each(alloc: Global, tree: &Value) -> Result<Option<Vec<MonitorRequest>
 }
 
 fn one_request(alloc: Global, tree: &Value) -> Result<Option<Vec<MonitorRequest>>, AllocError>
-    ensures { IfOk result (λ o. option_map (λ v. v.items) o ≡ option_map (λ r. r ∷ []) (spec.request_read (view tree.now))) }
+    ensures { IfOk result (λ o. option_map (λ v. v.items) o
+        ≡ option_map (λ r. r ∷ []) (spec.request_read (view tree.now))) }
 {
     let Some(request) = MonitorRequest::read(alloc, tree)? else {
         return Ok(None);
@@ -97,7 +101,8 @@ fn one_request(alloc: Global, tree: &Value) -> Result<Option<Vec<MonitorRequest>
 }
 
 fn each_request(alloc: Global, items: &[Value]) -> Result<Option<Vec<MonitorRequest>>, AllocError>
-    ensures { IfOk result (λ o. option_map (λ v. v.items) o ≡ each_read spec.request_read (items_view items.now)) }
+    ensures { IfOk result (λ o. option_map (λ v. v.items) o
+        ≡ each_read spec.request_read (items_view items.now)) }
 {
     let mut requests = Vec::new(alloc);
     for item in items {
@@ -129,7 +134,8 @@ fn names_in(alloc: Global, requests: &[MonitorRequest]) -> Result<Vec<&Text>, Al
 }
 
 fn add_names<'a>(names: &mut Vec<&'a Text>, more: &'a [Text]) -> Result<(), AllocError>
-    ensures { OnOk result (map (λ t. t.now) names.new.items ≡ map (λ t. t.now) names.old.items ++ more.now) }
+    ensures { OnOk result (map (λ t. t.now) names.new.items
+        ≡ map (λ t. t.now) names.old.items ++ more.now) }
 {
     for name in more {
         names.push(name)?;

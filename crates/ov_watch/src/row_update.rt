@@ -13,7 +13,8 @@ use uuid::Uuid;
 
 /// These columns of a row.
 fn shown(alloc: Global, names: &[Text], id: &Uuid, row: &Row) -> Result<Tree, AllocError>
-    ensures { (table : List ℕ) → IfOk result (λ t. t ≡ spec.shown names.now ((table, id.now), row.now)) }
+    ensures { (table : List ℕ)
+        → IfOk result (λ t. t ≡ spec.shown names.now ((table, id.now), row.now)) }
 {
     let shown = ShownRow::of(alloc, names, &RowView { id, row })?;
     shown.tree(alloc)
@@ -30,7 +31,8 @@ fn alone(alloc: Global, name: &str, tree: Tree) -> Result<Tree, AllocError>
 
 /// An object of the columns' new and old values.
 fn new_and_old(alloc: Global, new: Tree, old: Tree) -> Result<Tree, AllocError>
-    ensures { IfOk result (λ t. t ≡ object (member (codes "new") new (member (codes "old") old no_members))) }
+    ensures { IfOk result (λ t. t
+        ≡ object (member (codes "new") new (member (codes "old") old no_members))) }
 {
     let mut update = Object::new(alloc);
     update.put(alloc, "new", new)?;
@@ -45,7 +47,10 @@ pub(crate) fn new_row(
     id: &Uuid,
     row: &Row,
 ) -> Result<Option<Tree>, AllocError>
-    ensures { (table : List ℕ) → IfOk result (λ o. o ≡ option_map (λ names. spec.with_new names ((table, id.now), row.now)) (option_map (λ v. v.items) names.now)) }
+    ensures { (table : List ℕ)
+        → IfOk result (λ o. o
+        ≡ option_map (λ names. spec.with_new names ((table, id.now), row.now))
+        (option_map (λ v. v.items) names.now)) }
 {
     let Some(names) = names else {
         return Ok(None);
@@ -61,7 +66,10 @@ fn old_row(
     id: &Uuid,
     row: &Row,
 ) -> Result<Option<Tree>, AllocError>
-    ensures { (table : List ℕ) → IfOk result (λ o. o ≡ option_map (λ names. spec.with_old names ((table, id.now), row.now)) (option_map (λ v. v.items) names.now)) }
+    ensures { (table : List ℕ)
+        → IfOk result (λ o. o
+        ≡ option_map (λ names. spec.with_old names ((table, id.now), row.now))
+        (option_map (λ v. v.items) names.now)) }
 {
     let Some(names) = names else {
         return Ok(None);
@@ -72,7 +80,8 @@ fn old_row(
 
 /// Whether the row had another value in the column before. The row's identifier is the same.
 fn is_modified(before: &Row, after: &Row, name: &str) -> bool
-    ensures { (table : List ℕ) (id : List ℕ) → result ≡ spec.is_modified ((table, id), before.now) ((table, id), after.now) name.now }
+    ensures { (table : List ℕ) (id : List ℕ) → result
+        ≡ spec.is_modified ((table, id), before.now) ((table, id), after.now) name.now }
 {
     if name == "_uuid" {
         return false;
@@ -94,7 +103,10 @@ fn modified_columns(
     before: &Row,
     after: &Row,
 ) -> Result<Vec<Text>, AllocError>
-    ensures { (table : List ℕ) (id : List ℕ) → IfOk result (λ v. v.items ≡ filter (spec.is_modified ((table, id), before.now) ((table, id), after.now)) names.now) }
+    ensures { (table : List ℕ) (id : List ℕ)
+        → IfOk result (λ v. v.items
+        ≡ filter (spec.is_modified ((table, id), before.now) ((table, id), after.now))
+        names.now) }
 {
     let mut modified = Vec::new(alloc);
     for name in names {
@@ -114,7 +126,10 @@ fn modification(
     before: &Row,
     after: &Row,
 ) -> Result<Option<Tree>, AllocError>
-    ensures { (table : List ℕ) → IfOk result (λ o. o ≡ spec.modification names.now ((table, id.now), before.now) ((table, id.now), after.now)) }
+    ensures { (table : List ℕ)
+        → IfOk result (λ o. o
+        ≡ spec.modification names.now ((table, id.now), before.now)
+        ((table, id.now), after.now)) }
 {
     let modified = modified_columns(alloc, names, before, after)?;
     if modified.is_empty() {
@@ -133,7 +148,10 @@ fn former_update(
     before: &Row,
     after: Option<&Row>,
 ) -> Result<Option<Tree>, AllocError>
-    ensures { (name : List ℕ) → IfOk result (λ o. o ≡ spec.row_update table.now (name, id.now) (Some before.now) (option_copied after.entry)) }
+    ensures { (name : List ℕ)
+        → IfOk result (λ o. o
+        ≡ spec.row_update table.now (name, id.now) (Some before.now)
+        (option_copied after.entry)) }
 {
     let Some(after) = after else {
         return old_row(alloc, &table.deleted, id, before);
@@ -152,7 +170,10 @@ pub(crate) fn row_update(
     before: Option<&Row>,
     after: Option<&Row>,
 ) -> Result<Option<Tree>, AllocError>
-    ensures { (name : List ℕ) → IfOk result (λ o. o ≡ spec.row_update table.now (name, id.now) (option_copied before.entry) (option_copied after.entry)) }
+    ensures { (name : List ℕ)
+        → IfOk result (λ o. o
+        ≡ spec.row_update table.now (name, id.now) (option_copied before.entry)
+        (option_copied after.entry)) }
 {
     if let Some(before) = before {
         return former_update(alloc, table, id, before, after);

@@ -28,7 +28,8 @@ pub(crate) enum Kind {
 impl MonitorSelect {
     /// What a member `select`, which may be left out, selects; `None` if it is malformed.
     pub(crate) fn read(tree: Option<&Value>) -> Option<MonitorSelect>
-        ensures { option_map select_view result ≡ spec.select_read (option_map view (option_copied tree.entry)) }
+        ensures { option_map select_view result
+            ≡ spec.select_read (option_map view (option_copied tree.entry)) }
     {
         let Some(tree) = tree else {
             return Some(MonitorSelect {

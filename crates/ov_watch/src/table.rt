@@ -42,7 +42,8 @@ impl MonitoredTable {
         schema: &Schema,
         asked: &TableRequests,
     ) -> Result<MonitoredTable, WatchFault>
-        ensures { IsWatchResult (λ t. t) (spec.monitored_table (get schema.now.tables asked.now.0) asked.now) result }
+        ensures { IsWatchResult (λ t. t)
+            (spec.monitored_table (get schema.now.tables asked.now.0) asked.now) result }
     {
         let Some(table) = schema.table(asked.table.as_str()) else {
             return Err(WatchFault::UnknownTable);
@@ -78,7 +79,8 @@ fn add_table(tables: &mut Vec<MonitoredTable>, table: MonitoredTable) -> Result<
 
 /// Whether the table has all columns that the requests name.
 fn are_known(table: &Table, requests: &[MonitorRequest]) -> bool
-    ensures { result ≡ list_all (contains_key table.now.columns) (spec.requested_columns requests.now) }
+    ensures { result
+        ≡ list_all (contains_key table.now.columns) (spec.requested_columns requests.now) }
 {
     for request in requests {
         if !has_columns(table, request.names()) {
@@ -124,7 +126,8 @@ fn told_columns(
     requests: &[MonitorRequest],
     kind: Kind,
 ) -> Result<Option<Vec<Text>>, AllocError>
-    ensures { IfOk result (λ o. option_map (λ v. v.items) o ≡ spec.told_columns table.now (filter (selects kind) requests.now)) }
+    ensures { IfOk result (λ o. option_map (λ v. v.items) o
+        ≡ spec.told_columns table.now (filter (selects kind) requests.now)) }
 {
     let selected = selected(alloc, requests, kind)?;
     if selected.is_empty() {
@@ -156,7 +159,11 @@ fn columns_of(
     table: &Table,
     requests: &[&MonitorRequest],
 ) -> Result<Vec<Text>, AllocError>
-    ensures { IfOk result (λ v. v.items ≡ filter (λ name. list_any (λ request. spec.is_one_of request.columns name) (map (λ r. r.now) requests.now)) (keys table.now.columns)) }
+    ensures { IfOk result (λ v. v.items
+        ≡ filter
+        (λ name. list_any (λ request. spec.is_one_of request.columns name)
+        (map (λ r. r.now) requests.now))
+        (keys table.now.columns)) }
 {
     let mut names = Vec::new(alloc);
     for (name, _column) in table.columns() {
@@ -169,7 +176,9 @@ fn columns_of(
 
 /// Whether at least one request covers the column of this name.
 fn is_asked(requests: &[&MonitorRequest], name: &str) -> bool
-    ensures { result ≡ list_any (λ request. spec.is_one_of request.columns name.now) (map (λ r. r.now) requests.now) }
+    ensures { result
+        ≡ list_any (λ request. spec.is_one_of request.columns name.now)
+        (map (λ r. r.now) requests.now) }
 {
     for request in requests {
         if request.is_about(name) {

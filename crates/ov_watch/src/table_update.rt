@@ -35,7 +35,9 @@ fn put_first(
     id: &Uuid,
     row: &Row,
 ) -> Result<(), AllocError>
-    ensures { OnOk result (told.new ≡ placed told.old (option_to_list (told_at_first table.now ((table.now.table, id.now), row.now)))) }
+    ensures { OnOk result (told.new
+        ≡ placed told.old
+        (option_to_list (told_at_first table.now ((table.now.table, id.now), row.now)))) }
 {
     match new_row(alloc, &table.initial, id, row)? {
         Some(update) => put_under_id(alloc, told, id, update),
@@ -52,7 +54,8 @@ fn put_change(
     key: &RowKey,
     change: &Option<Row>,
 ) -> Result<(), AllocError>
-    ensures { OnOk result (told.new ≡ placed told.old (option_to_list (told_change rows.now table.now (key.now, change.now)))) }
+    ensures { OnOk result (told.new
+        ≡ placed told.old (option_to_list (told_change rows.now table.now (key.now, change.now)))) }
 {
     if key.table() != table.table.as_str() {
         return Ok(());
@@ -87,7 +90,9 @@ impl MonitoredTable {
         rows: &Rows,
         delta: &Delta,
     ) -> Result<Object, AllocError>
-        ensures { IfOk result (λ o. o ≡ placed no_members (spec.updated_rows rows.now (applied delta.now rows.now) self.now)) }
+        ensures { IfOk result (λ o. o
+            ≡ placed no_members
+            (spec.updated_rows rows.now (applied delta.now rows.now) self.now)) }
     {
         let mut told = Object::new(alloc);
         for (key, change) in delta.map() {

@@ -61,7 +61,9 @@ impl Watchers {
         id: Tree,
         requests: &Value,
     ) -> Result<(), WatchFault>
-        ensures { WatchesAsGiven session (spec.added schema.now (monitors_at session self.old) id (view requests.now)) self.old result self.new }
+        ensures { WatchesAsGiven session
+            (spec.added schema.now (monitors_at session self.old) id (view requests.now)) self.old
+            result self.new }
     {
         if let Some(monitors) = self.monitors.get_mut(&session) {
             return monitors.add(alloc, schema, id, requests);
@@ -80,7 +82,8 @@ impl Watchers {
     /// Removes the session's monitor of this name. Returns `Unknown` if there is none, and may return `Memory`; then nothing
     /// changes (RFC 7047, 4.1.7).
     pub fn cancel(&mut self, alloc: Global, session: u64, id: &Tree) -> Result<(), WatchFault>
-        ensures { WatchesAsGiven session (spec.canceled (monitors_at session self.old) id.now) self.old result self.new }
+        ensures { WatchesAsGiven session (spec.canceled (monitors_at session self.old) id.now)
+            self.old result self.new }
     {
         match self.monitors.get_mut(&session) {
             Some(monitors) => monitors.cancel(alloc, id),
@@ -97,7 +100,9 @@ impl Watchers {
         session: u64,
         id: &Tree,
     ) -> Result<Option<Tree>, AllocError>
-        ensures { IfOk result (λ o. o ≡ option_map (initial db.now.committed) (find (spec.is_named id.now) (monitors_at session self.now))) }
+        ensures { IfOk result (λ o. o
+            ≡ option_map (initial db.now.committed)
+            (find (spec.is_named id.now) (monitors_at session self.now))) }
     {
         match self.monitors.get(&session) {
             Some(monitors) => monitors.initial(alloc, db, id),
@@ -114,7 +119,9 @@ impl Watchers {
         delta: &Delta,
         session: u64,
     ) -> Result<Vec<Trees>, AllocError>
-        ensures { IfOk result (λ v. v.items ≡ all_updates db.now.committed (applied delta.now db.now.committed) (monitors_at session self.now)) }
+        ensures { IfOk result (λ v. v.items
+            ≡ all_updates db.now.committed (applied delta.now db.now.committed)
+            (monitors_at session self.now)) }
     {
         match self.monitors.get(&session) {
             Some(monitors) => monitors.updates(alloc, db, delta),

@@ -1,7 +1,8 @@
 //! How the program ends, by what it met.
 
 ghost use Rattle.std.specs.Prelude.{◌≡◌};
-ghost use Rattle.ov_words.specs.Causes.{by_words, by_schema, by_keeping, by_open, by_step, by_cause};
+ghost use Rattle.ov_words.specs.Causes.{by_words, by_schema, by_keeping, by_open, by_step};
+ghost use Rattle.ov_words.specs.Causes.{by_cause};
 
 use crate::ending::Ending;
 use crate::fault::WordFault;

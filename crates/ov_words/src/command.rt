@@ -1,5 +1,6 @@
 ghost use Rattle.std.specs.Prelude.{◌≡◌, ◌≢◌, [], Err, false, IfOk, codes, map};
-ghost use Rattle.clap.specs.Words.{app_of, fault_of, first_value, found_of, matches_of, rows_of, rule_of};
+ghost use Rattle.clap.specs.Words.{app_of, fault_of, first_value, found_of, matches_of, rows_of};
+ghost use Rattle.clap.specs.Words.{rule_of};
 ghost use Rattle.ov_words.specs.Words.{app, option_rule, with_database, with_ends};
 
 use crate::fault::WordFault;
@@ -14,8 +15,10 @@ pub(crate) fn matches<'a, S: AsStr>(
     words: &'a [S],
 ) -> Result<ArgMatches<'a>, WordFault>
     ensures taken { IfOk result (λ matches. fault_of app (map S.text words.entry.now) ≡ []) }
-    ensures rows { IfOk result (λ matches. rows_of (found_of matches) ≡ matches_of app (map S.text words.entry.now)) }
-    ensures refused { result ≡ Err WordFault.Refused → fault_of app (map S.text words.entry.now) ≢ [] }
+    ensures rows { IfOk result (λ matches. rows_of (found_of matches)
+        ≡ matches_of app (map S.text words.entry.now)) }
+    ensures refused { result ≡ Err WordFault.Refused
+        → fault_of app (map S.text words.entry.now) ≢ [] }
 {
     let command = command(alloc)?;
     match command.try_get_matches_from(words) {

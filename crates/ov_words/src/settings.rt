@@ -1,4 +1,5 @@
-ghost use Rattle.std.specs.Prelude.{◌≡◌, ◌≢◌, [], Err, None, Some, true, false, IfOk, codes, map, option_and_then};
+ghost use Rattle.std.specs.Prelude.{◌≡◌, ◌≢◌, [], Err, None, Some, true, false, IfOk, codes, map};
+ghost use Rattle.std.specs.Prelude.{option_and_then};
 ghost use Rattle.clap.specs.Words.{first_value, found_of};
 ghost use Rattle.ov_words.specs.Words.{fit_together, is_number, is_set, sessions_in, settings_of};
 
@@ -54,7 +55,8 @@ pub fn read_words<S: AsStr>(alloc: Global, words: &[S]) -> Result<Settings, Word
 fn name_of(alloc: Global, matches: &ArgMatches<'_>, name: &str) -> Result<Option<Text>, WordFault>
     ensures value { IfOk result (λ named. named ≡ first_value (found_of matches.now) name.now) }
     ensures full { IfOk result (λ named. named ≢ Some []) }
-    ensures empty { result ≡ Err WordFault.Refused → first_value (found_of matches.now) name.now ≡ Some [] }
+    ensures empty { result ≡ Err WordFault.Refused
+        → first_value (found_of matches.now) name.now ≡ Some [] }
 {
     match matches.get_str(name) {
         None => Ok(None),
@@ -65,9 +67,12 @@ fn name_of(alloc: Global, matches: &ArgMatches<'_>, name: &str) -> Result<Option
 
 /// The number of sessions that an option gives, if the option is used.
 fn number_of(matches: &ArgMatches<'_>, name: &str) -> Result<Option<u64>, WordFault>
-    ensures value { IfOk result (λ count. count ≡ option_and_then sessions_in (first_value (found_of matches.now) name.now)) }
-    ensures number { IfOk result (λ count. is_number (first_value (found_of matches.now) name.now) ≡ true) }
-    ensures other { result ≡ Err WordFault.Refused → is_number (first_value (found_of matches.now) name.now) ≡ false }
+    ensures value { IfOk result (λ count. count
+        ≡ option_and_then sessions_in (first_value (found_of matches.now) name.now)) }
+    ensures number { IfOk result (λ count. is_number (first_value (found_of matches.now) name.now)
+        ≡ true) }
+    ensures other { result ≡ Err WordFault.Refused
+        → is_number (first_value (found_of matches.now) name.now) ≡ false }
 {
     match matches.get_str(name) {
         None => Ok(None),
