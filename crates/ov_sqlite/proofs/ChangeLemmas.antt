@@ -1,10 +1,11 @@
 -- What the statements make of a database of stored format 2.
-use Rattle.std.proofs.Common.{◌≡◌, ℕ, ℤ, List, [], ◌∷◌, map, find, length, Bool, true, false, ◌||◌, Option, Some, None, IfSome, IsTrue, IsUtf8, Ok, codes, refl, sym, ap, subst, ◌∙◌}
+use Rattle.std.proofs.Common.{◌≡◌, ℕ, ℤ, List, [], ◌∷◌, map, length, Bool, true, false, ◌||◌, Some, None, IfSome, IsTrue, IsUtf8, Ok, codes, refl, sym, ap, subst, ◌∙◌}
 use Rattle.std.specs.List.{AllByRecursion}
-use Rattle.std.specs.FinMap.{empty, get, insert, remove}
+use Rattle.std.specs.FinMap.{empty, get, remove}
 use Rattle.sqlite.specs.declared.types.Value.TheVariants.{Text, Blob}
 use Rattle.sqlite.specs.Order.{Row, column}
 use Rattle.sqlite_trees.specs.Tree.{put_row}
+use Rattle.sqlite_rules.specs.Edit.{next_rowid, put_all}
 use Rattle.sqlite_trees.proofs.TreeLemmas.{all-put_row}
 use Rattle.sqlite_trees.proofs.ListLemmas.{all_weaker, all_both, all-filter}
 use Rattle.sqlite.specs.State.{State, Executes}
@@ -13,7 +14,8 @@ use Rattle.ov_specs.specs.rows.Cells.{CellLine, CellLines, cell_lines}
 use Rattle.ov_tables.specs.Tables.{meta_table, head_table, cell_table, tree_of, row_trees, HasCellTables, cell_insert_text, cell_delete_text, head_insert_text, head_delete_text}
 use Rattle.ov_tables.specs.Format.{IsMeta, IsKeyed, IsHead, IsCell, row_key, head_of, cell_of, stored_cells, rows_of_head, rows_of_cell}
 use Rattle.ov_tables.specs.Holding.{HoldsCells, IsNumbered, is_among}
-use Rattle.ov_sqlite.specs.Changing.{Makes, Becomes, IsEmptied, IsAdded}
+use Rattle.ov_sqlite.specs.Changing.{Makes, Becomes, IsEmptied, IsBegun, IsAdded, AreAdded}
+use Rattle.ov_sqlite.specs.Joining.{Entry, entry_in}
 use Rattle.ov_tables.proofs.ListingLemmas.{Touches, rows_beside, others_kept}
 use Rattle.ov_tables.proofs.Statements.{key_terms, head_insert_terms, cell_insert_terms, head_insert_parsed, cell_insert_parsed, head_delete_parsed, cell_delete_parsed}
 use Rattle.ov_tables.proofs.HeadTexts.{head_insert_is, head_delete_is}
@@ -22,9 +24,11 @@ use Rattle.ov_tables.proofs.RowLemmas.{has_key}
 use Rattle.ov_tables.proofs.DeleteLemmas.{deletes}
 use Rattle.ov_tables.proofs.InsertLemmas.{inserts, head_row, cell_row, head_adds, cell_adds}
 use Rattle.ov_tables.proofs.RemoveLemmas.{left_keyed, filter_numbered, numbered_part}
-use Rattle.ov_sqlite.proofs.PutLemmas.{not_taken, put_numbered, any_put, none_passes}
+use Rattle.ov_sqlite.proofs.PutLemmas.{not_taken, put_numbered, any_put, passes_none}
 use Rattle.ov_sqlite.proofs.CellLemmas.{others, others_all, IsAbsent, HasHead, heads_each, each_heads, head_stays, head_there, bare, emptied, removed, headed, celled, get_lines, line_at}
-use Rattle.ov_sqlite.proofs.KeyLemmas.{apart_by_key, new_cell}
+use Rattle.ov_sqlite.proofs.KeyLemmas.{AreApart, apart_by_key, new_head, new_cell}
+use Rattle.ov_sqlite.proofs.FourTexts.{four_cells_text, four_cells_terms, four_cells_parsed, four_cells_is, four_values, four_adds}
+use Rattle.ov_sqlite.proofs.ManyLemmas.{InsertsAll, next_rows, inserts_all, all_put, all_numbered, cells_added}
 use Rattle.ov_tables.proofs.MetaLemmas.{first_among, head_not_cell, cell_not_head, meta_not_head, meta_not_cell, itself}
 
 module _ (text : List ℕ) (old new : State) (stored : HoldsCells text old.now) (mode : IsTrue new.in_transaction) (was : IsTrue old.is_open) (committed : new.committed ≡ old.committed) where
@@ -130,21 +134,20 @@ module _ (text : List ℕ) (old new : State) (stored : HoldsCells text old.now) 
     keyed_row : (r : Row) (n : ℤ) → column r 0 ≡ Rattle.sqlite.specs.declared.types.Value.TheVariants.Int n → column r 1 ≡ Text t → column r 2 ≡ Blob i → IsKeyed r
     keyed_row r n number tbl id = record { number = n; tbl = t; id = i; number_is = number; tbl_is = tbl; id_is = id; named = named; id_sixteen = id_sixteen }
 
-    lacking : (o : Option Row) → line_at C (t, i) o ≡ None → o ≡ None
-    lacking None e = refl
-    lacking (Some r) e = absurd cc
-
-    pub head_inserted : (v : List ℕ) → length v ≡ 16 → get (stored_cells old.now.trees) (t, i) ≡ None → Executes head_insert_text (Text t ∷ Blob i ∷ Blob v ∷ []) old new (Ok count)
-        → Makes text (Becomes (λ m. insert m (t, i) (v, empty))) old new
-    head_inserted v ver_sixteen none ran =
+    pub head_inserted : (v : List ℕ) → length v ≡ 16 → Executes head_insert_text (Text t ∷ Blob i ∷ Blob v ∷ []) old new (Ok count)
+        → Makes text (IsBegun (t, i) v) old new
+    head_inserted v ver_sixteen ran =
         let d = inserts old new (codes "head") h _ (1 ∷ 2 ∷ []) head_insert_text head_insert_terms 4 (Text t ∷ Blob i ∷ Blob v ∷ []) (head_row t i v) head_insert_parsed has.head stored.sound (λ at it. head_insert_is old.now.schema at h it) (head_adds h t i v) count ran in
         let x = head_row t i v d.number in
         let fresh = not_taken H x d.fresh in
         let is : IsHead x = record { keyed = keyed_row x d.number refl refl refl; ver = v; ver_is = refl; ver_sixteen = ver_sixteen } in
-        let absent : IsAbsent (t, i) H = none_passes (has_key (t, i)) H (lacking (find (has_key (t, i)) H) (sym (get_lines C H (t, i)) ∙ none)) in
+        let table = subst (λ s. Rattle.ov_tables.specs.Tables.HasTable s (head_table h)) (sym d.only.schema) has.head in
+        let apart = subst (AreApart (1 ∷ 2 ∷ [])) d.rows (apart_by_key new.now (codes "head") h _ (1 ∷ 2 ∷ []) table d.only.sound) in
+        let absent = new_head x H d.fresh stored.format.heads is apart in
+        let none : get (stored_cells old.now.trees) (t, i) ≡ None = get_lines C H (t, i) ∙ ap (line_at C (t, i)) (passes_none (has_key (t, i)) H absent) in
         let bare_cells : IsAbsent (t, i) C = bare (t, i) H C heads_are (subst (λ o. IfSome o (λ l. l.1 ≡ empty)) (sym none) tt) in
-        head_changed (Becomes (λ m. insert m (t, i) (v, empty))) (put_row x H) d.only d.rows (all-put_row IsHead x H is stored.format.heads) (put_numbered head_of x H fresh stored.heads_numbered)
-        (all_weaker _ _ (λ r there. any_put (has_key (row_key r)) x H fresh ∙ or_true _ _ there) C heads_are) (headed x H C fresh absent bare_cells)
+        head_changed (IsBegun (t, i) v) (put_row x H) d.only d.rows (all-put_row IsHead x H is stored.format.heads) (put_numbered head_of x H fresh stored.heads_numbered)
+        (all_weaker _ _ (λ r there. any_put (has_key (row_key r)) x H fresh ∙ or_true _ _ there) C heads_are) (none, headed x H C fresh absent bare_cells)
       where
         or_true : (a b : Bool) → b ≡ true → (a || b) ≡ true
         or_true true b e = refl
@@ -158,7 +161,40 @@ module _ (text : List ℕ) (old new : State) (stored : HoldsCells text old.now) 
         let fresh = not_taken C x d.fresh in
         let is : IsCell x = record { keyed = keyed_row x d.number refl refl refl; col = name; body = body; col_is = refl; body_is = refl; col_named = col_named } in
         let table = subst (λ s. Rattle.ov_tables.specs.Tables.HasTable s (cell_table c)) (sym d.only.schema) has.cell in
-        let apart = subst (Rattle.ov_sqlite.proofs.KeyLemmas.AreApart (1 ∷ 2 ∷ 3 ∷ [])) d.rows (apart_by_key new.now (codes "cell") c _ (1 ∷ 2 ∷ 3 ∷ []) table d.only.sound) in
+        let apart = subst (AreApart (1 ∷ 2 ∷ 3 ∷ [])) d.rows (apart_by_key new.now (codes "cell") c _ (1 ∷ 2 ∷ 3 ∷ []) table d.only.sound) in
         let free = new_cell x C d.fresh stored.format.cells is apart in
         cell_changed (IsAdded (t, i) name body) (put_row x C) d.only d.rows (all-put_row IsCell x C is stored.format.cells) (put_numbered cell_of x C fresh stored.cells_numbered)
         (all-put_row (HasHead H) x C (head_there H C x l line) heads_are) (λ l e. celled x C fresh free H l e)
+
+    abbrev pub cell_rows : List Entry → List (ℤ → Row)
+    cell_rows entries = map (λ (e : Entry). cell_row t i e.0 e.1) entries
+
+    rows_are_cells : (entries : List Entry) (rows : List Row) → AllByRecursion (λ (e : Entry). IsUtf8 e.0) entries → AllByRecursion (λ x. IsCell x × (row_key x ≡ (t, i))) (next_rows (cell_rows entries) rows)
+    rows_are_cells [] rows all = tt
+    rows_are_cells (e ∷ entries) rows all =
+        let n = next_rowid rows in
+        let x = cell_row t i e.0 e.1 n in
+        ((record { keyed = keyed_row x n refl refl refl; col = e.0; body = e.1; col_is = refl; body_is = refl; col_named = all.0 }, refl), rows_are_cells entries (put_row x rows) all.1)
+
+    rows_have : (entries : List Entry) (rows : List Row) → map entry_in (next_rows (cell_rows entries) rows) ≡ entries
+    rows_have [] rows = refl
+    rows_have (e ∷ entries) rows = ap (λ es. e ∷ es) (rows_have entries (put_row (cell_row t i e.0 e.1 (next_rowid rows)) rows))
+
+    -- `cell` has more rows, each a cell of this row
+    more_inserted : (entries : List Entry) (l : CellLine) → AllByRecursion (λ (e : Entry). IsUtf8 e.0) entries → get (stored_cells old.now.trees) (t, i) ≡ Some l → InsertsAll (cell_table c) (cell_rows entries) old new → Makes text (AreAdded (t, i) entries) old new
+    more_inserted entries l named_all line d =
+        let xs = next_rows (cell_rows entries) C in
+        let are = rows_are_cells entries C named_all in
+        let cells = all_weaker _ IsCell (λ x (it : IsCell x × (row_key x ≡ (t, i))). it.0) xs are in
+        let owned = all_weaker _ (HasHead H) (λ x (it : IsCell x × (row_key x ≡ (t, i))). head_there H C x l (subst (λ (k : LineKey). get (stored_cells old.now.trees) k ≡ Some l) (sym it.1) line)) xs are in
+        let table = subst (λ s. Rattle.ov_tables.specs.Tables.HasTable s (cell_table c)) (sym d.only.schema) has.cell in
+        let apart = subst (AreApart (1 ∷ 2 ∷ 3 ∷ [])) d.rows (apart_by_key new.now (codes "cell") c _ (1 ∷ 2 ∷ 3 ∷ []) table d.only.sound) in
+        let added = cells_added H (t, i) xs C l d.fresh stored.format.cells are apart line in
+        cell_changed (AreAdded (t, i) entries) (put_all C xs) d.only d.rows (all_put IsCell xs C cells stored.format.cells) (all_numbered cell_of xs C d.fresh stored.cells_numbered) (all_put (HasHead H) xs C owned heads_are)
+        (subst (λ es. AreAdded (t, i) es (stored_cells old.now.trees) (cell_lines (map head_of H) (map cell_of (put_all C xs)))) (rows_have entries C) added)
+
+    pub four_inserted : (p q r s : Entry) (l : CellLine) → IsUtf8 p.0 → IsUtf8 q.0 → IsUtf8 r.0 → IsUtf8 s.0 → get (stored_cells old.now.trees) (t, i) ≡ Some l
+        → Executes four_cells_text (four_values t i p q r s) old new (Ok count) → Makes text (AreAdded (t, i) (p ∷ q ∷ r ∷ s ∷ [])) old new
+    four_inserted p q r s l np nq nr ns line ran =
+        more_inserted (p ∷ q ∷ r ∷ s ∷ []) l (np, (nq, (nr, (ns, tt)))) line
+        (inserts_all old new (codes "cell") c _ (1 ∷ 2 ∷ 3 ∷ []) four_cells_text four_cells_terms 5 (four_values t i p q r s) (cell_rows (p ∷ q ∷ r ∷ s ∷ [])) four_cells_parsed has.cell stored.sound (λ at it. four_cells_is old.now.schema at c it) (four_adds c t i p q r s) count ran)

@@ -32,12 +32,12 @@ use Rattle.sqlite_rules.proofs.ListLemmas.{all_has, all_from, some_from}
 use Rattle.sqlite_rules.proofs.TableLemmas.{put_all_keeps, put_all_adds}
 use Rattle.ov_specs.specs.rows.Lines.{LineKey}
 use Rattle.ov_tables.specs.Tables.{plain_table, HasTable}
-use Rattle.ov_tables.specs.Format.{HasNumber, IsKeyed, IsCell, row_key, rows_of}
+use Rattle.ov_tables.specs.Format.{HasNumber, IsKeyed, IsHead, IsCell, row_key, rows_of}
 use Rattle.ov_tables.proofs.TableLemmas.{found_has}
 use Rattle.ov_tables.proofs.ListingLemmas.{rows_are}
-use Rattle.ov_tables.proofs.RowLemmas.{keyed_number, equal_texts, equal_blobs, truth_of, same_number}
+use Rattle.ov_tables.proofs.RowLemmas.{has_key, keyed_number, equal_texts, equal_blobs, truth_of, same_number}
 use Rattle.ov_sqlite.proofs.PutLemmas.{not_taken, none_passes, passes_none}
-use Rattle.ov_sqlite.proofs.CellLemmas.{has_cell, IsNewCell, keyed, same_name_is}
+use Rattle.ov_sqlite.proofs.CellLemmas.{has_cell, IsNewCell, IsAbsent, keyed, same_name_is}
 use Rattle.ov_sqlite.proofs.OpenLemmas.{every_shuffled}
 
 -- ---- what is found in another order
@@ -190,7 +190,20 @@ cell_number s r m l e f apart =
     tied_numbers s r (keyed_number s m.keyed) (keyed_number r l.keyed)
     (last_three _ _ _ (differ (rowid s) (rowid r)) (first s r m.keyed l.keyed e) (second s r m.keyed l.keyed e) third (ap (λ b. b && differ (rowid s) (rowid r)) (sym (agree_three s r)) ∙ apart))
 
--- ---- a cell that was added
+-- ---- what was added
+
+-- the table has each key once, so a head that was added is of a key that had none
+pub new_head : (x : Row) (H : List Row) → are_fresh H (x ∷ []) ≡ true → AllByRecursion IsHead H → IsHead x → AreApart (1 ∷ 2 ∷ []) (put_row x H) → IsAbsent (row_key x) H
+new_head x H fresh heads is apart = all_from _ H (λ r h. at r h (has_key (row_key x) r) refl)
+  where
+    at : (r : Row) → Has H r → (b : Bool) → has_key (row_key x) r ≡ b → has_key (row_key x) r ≡ false
+    at r h false e = e
+    at r h true e =
+        let one = all_has _ (put_row x H) r (all_has _ (put_row x H) x apart (put_all_adds (x ∷ []) H x fresh (inl refl))) (put_all_keeps (x ∷ []) H r fresh h) in
+        let head : IsHead r = all_has _ H r heads h in
+        let number = key_number r x head.keyed is.keyed (sym (keyed (row_key x) r e)) one in
+        let taken : is_taken H x ≡ true = some_from _ H r h (ap (λ v. is_eq (value_cmp v (rowid x))) number ∙ (eq_by_cmp_equiv value_cmp_total).refl (rowid x)) in
+        absurd (let clash : true ≡ false = sym taken ∙ not_taken H x fresh in cc)
 
 -- the table has each key once, so a cell that was added is that of no other row
 pub new_cell : (x : Row) (C : List Row) → are_fresh C (x ∷ []) ≡ true → AllByRecursion IsCell C → IsCell x → AreApart (1 ∷ 2 ∷ 3 ∷ []) (put_row x C) → IsNewCell x C

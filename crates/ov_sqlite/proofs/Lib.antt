@@ -6,6 +6,8 @@ pub mod PairLemmas
 pub mod KeyLemmas
 pub mod ChangeLemmas
 pub mod RefillLemmas
+pub mod FourTexts
+pub mod ManyLemmas
 pub mod RewriteLemmas
 pub mod NumberLemmas
 pub mod HeldLemmas

@@ -1,11 +1,16 @@
 -- How a statement changes the rows of stored format 2.
-use Rattle.std.specs.Prelude.{◌≡◌, ℕ, List, IsTrue, Some, None, IfSome, option_map, cond}
+use Rattle.std.specs.Prelude.{◌≡◌, ℕ, List, [], ◌∷◌, IsTrue, Some, None, IfSome, option_map, cond}
 use Rattle.std.specs.Ordering.{eq_by_cmp}
 use Rattle.std.specs.FinMap.{empty, get, insert}
+use Rattle.sqlite.specs.declared.error.Error.{Error}
+use Rattle.sqlite.specs.declared.error.Error.TheVariants.{SqliteFailure}
+use Rattle.sqlite.specs.declared.error.ErrorCode.TheVariants.{ConstraintViolation}
+use Rattle.sqlite_schema.specs.declared.schema.Constraint.{Constraint}
 use Rattle.sqlite.specs.Tree.{Trees}
 use Rattle.sqlite.specs.State.{State}
 use Rattle.ov_specs.specs.rows.Cells.{CellLine, CellLines}
 use Rattle.ov_specs.specs.rows.Lines.{LineKey, line_cmp}
+use Rattle.ov_specs.specs.values.Uuid.{Uuid}
 use Rattle.ov_tables.specs.Format.{stored_cells, rows_of_meta}
 use Rattle.ov_tables.specs.Tables.{row_trees}
 use Rattle.ov_tables.specs.Holding.{HoldsCells, MayHoldCells, KeepsOthers}
@@ -30,11 +35,21 @@ IsEmptied key old new =
     (q : LineKey) → get new q
     ≡ cond (eq_by_cmp line_cmp key q) (option_map (λ l. (l.0, empty)) (get old q)) (get old q)
 
+-- there was no row of this key, and now there is one of this version, without cells
+abbrev pub IsBegun : LineKey → Uuid → CellLines → CellLines → Type 0
+IsBegun key version old new = (get old key ≡ None) × (new ≡ insert old key (version, empty))
+
 -- the row of this key has one more cell, of a column that had none
 abbrev pub IsAdded : LineKey → List ℕ → List ℕ → CellLines → CellLines → Type 0
 IsAdded key name body old new =
     (l : CellLine) → get old key ≡ Some l
     → (get l.1 name ≡ None) × (new ≡ insert old key (l.0, insert l.1 name body))
+
+-- the row of this key has these cells more, one after the other, each of a column that had none
+abbrev pub AreAdded : LineKey → List (List ℕ × List ℕ) → CellLines → CellLines → Type 0
+AreAdded key [] old new = new ≡ old
+AreAdded key (c ∷ cs) old new =
+    (mid : CellLines) × IsAdded key c.0 c.1 old mid × AreAdded key cs mid new
 
 -- the row of this key, which had no cells, has these
 abbrev pub IsRefilled : LineKey → CellLine → CellLines → CellLines → Type 0
@@ -45,13 +60,13 @@ abbrev pub MayHave : LineKey → (CellLine → Type 0) → State → Type 0
 MayHave key Has s =
     IsTrue s.is_open → (l : CellLine) × (get (stored_cells s.now.trees) key ≡ Some l) × Has l
 
--- while the connection is open, there is no row of this key
-abbrev pub MayLack : LineKey → State → Type 0
-MayLack key s = IsTrue s.is_open → get (stored_cells s.now.trees) key ≡ None
-
 -- while the connection is open, the row of this key has no cells, or there is none
 abbrev pub MayBeEmpty : LineKey → State → Type 0
 MayBeEmpty key s = IsTrue s.is_open → IfSome (get (stored_cells s.now.trees) key) (λ l. l.1 ≡ empty)
+
+-- a rule of the tables refused the statement
+abbrev pub IsRefusal : Error → Type 0
+IsRefusal e = (rule : Constraint) × (e ≡ SqliteFailure (ConstraintViolation rule))
 
 -- they became what f makes of them
 abbrev pub Becomes : (CellLines → CellLines) → CellLines → CellLines → Type 0

@@ -1,15 +1,17 @@
 //! Writing rows of stored format 2.
 
-ghost use Rattle.std.specs.Prelude.{◌≡◌, ◌<◌, length, false, IsTrue, OnOk, OnErr, IfErr};
+ghost use Rattle.std.specs.Prelude.{◌≡◌, ◌<◌, ◌∷◌, [], length, map, false, IsTrue, OnOk, OnErr, IfErr};
 ghost use Rattle.std.specs.FinMap.{empty, insert, remove};
 ghost use Rattle.sqlite.specs.State.{HasCleanDisk, Survives, KeepsCommit, IsUnchanged};
 ghost use Rattle.sqlite.specs.Held.{state};
 ghost use Rattle.ov_specs.specs.rows.Cells.{after_cell_change, after_cell_changes};
-ghost use Rattle.ov_keeper.specs.Views.{cells_view, cell_line_entry, change_view, changes_view};
+ghost use Rattle.ov_keeper.specs.Views.{cell_entry, cells_view, cell_line_entry};
+ghost use Rattle.ov_keeper.specs.Views.{change_view, changes_view};
 ghost use Rattle.ov_tables.specs.WriteError.{IsBefore};
 ghost use Rattle.ov_tables.specs.Holding.{MayHoldCells};
-ghost use Rattle.ov_sqlite.specs.Changing.{Makes, Becomes, IsEmptied, IsAdded, IsRefilled, MayHave};
-ghost use Rattle.ov_sqlite.specs.Changing.{MayLack, MayBeEmpty, Stores, IsCommitImage};
+ghost use Rattle.ov_sqlite.specs.Changing.{Makes, Becomes, IsEmptied, IsBegun, IsAdded};
+ghost use Rattle.ov_sqlite.specs.Changing.{AreAdded, IsRefilled, IsRefusal};
+ghost use Rattle.ov_sqlite.specs.Changing.{MayHave, MayBeEmpty, Stores, IsCommitImage};
 ghost use Rattle.ov_tables.specs.Inside.{DoesInside, DoesInsideIf, WasOpenInside, GoesOnInside};
 ghost use Rattle.ov_tables.specs.Inside.{CommitsNothing};
 ghost use Rattle.ov_tables.specs.Querying.{IsAsBefore};
@@ -17,7 +19,7 @@ ghost use Rattle.ov_tables.specs.Querying.{IsAsBefore};
 use ov_keeper::{Cell, CellLine, Change};
 use ov_tables::WriteError;
 use sqlite::types::ValueRef;
-use sqlite::{Alter, Connection, Error, Transaction};
+use sqlite::{Alter, Connection, Error, ErrorCode, Transaction};
 use uuid::Uuid;
 
 /// Removes the cells of the row of this key.
@@ -86,13 +88,18 @@ fn id_bytes(id: &Uuid) -> &[u8]
     id.as_bytes()
 }
 
-/// Adds the head of a row that is not there.
+/// Adds the head of a row that is not there. SQLite refuses a second head of one key; then nothing has changed.
 fn insert_head<S: Alter>(tx: &mut Transaction<'_, S>, line: &CellLine) -> Result<(), Error>
     ensures same_reference { tx.new.conn.ghost_name ≡ tx.old.conn.ghost_name }
-    ensures ok { DoesInsideIf (MayLack (line.now.table, line.now.id))
-        (λ text. Makes text (Becomes
-        (λ m. insert m (line.now.table, line.now.id) (line.now.version, empty))))
+    ensures ok { DoesInside (λ text. Makes text
+        (IsBegun (line.now.table, line.now.id) line.now.version))
         (state S.Store tx.old.conn.now) (state S.Store tx.new.conn.now) result }
+    ensures refused { HasCleanDisk (state S.Store tx.new.conn.now)
+        → IsTrue (state S.Store tx.old.conn.now).in_transaction
+        → IfErr result (λ e. IsRefusal e
+        → IsUnchanged (state S.Store tx.old.conn.now) (state S.Store tx.new.conn.now)) }
+    ensures opened { WasOpenInside (state S.Store tx.old.conn.now)
+        (state S.Store tx.new.conn.now) result }
     ensures goes_on { GoesOnInside (state S.Store tx.old.conn.now)
         (state S.Store tx.new.conn.now) result }
     ensures kept { CommitsNothing (state S.Store tx.old.conn.now) (state S.Store tx.new.conn.now) }
@@ -137,7 +144,68 @@ fn insert_cell<S: Alter>(
     Ok(())
 }
 
-/// Adds the cells of a row, whose head is there without any.
+/// Adds four cells to a row that is there, by one statement. SQLite refuses a second cell of one column.
+fn insert_four<S: Alter>(
+    tx: &mut Transaction<'_, S>,
+    line: &CellLine,
+    a: &Cell,
+    b: &Cell,
+    c: &Cell,
+    d: &Cell,
+) -> Result<(), Error>
+    ensures same_reference { tx.new.conn.ghost_name ≡ tx.old.conn.ghost_name }
+    ensures ok { DoesInsideIf (MayHave (line.now.table, line.now.id) (λ _. Unit {0}))
+        (λ text. Makes text (AreAdded (line.now.table, line.now.id)
+        (cell_entry a.now ∷ cell_entry b.now ∷ cell_entry c.now ∷ cell_entry d.now ∷ [])))
+        (state S.Store tx.old.conn.now) (state S.Store tx.new.conn.now) result }
+    ensures goes_on { GoesOnInside (state S.Store tx.old.conn.now)
+        (state S.Store tx.new.conn.now) result }
+    ensures kept { CommitsNothing (state S.Store tx.old.conn.now) (state S.Store tx.new.conn.now) }
+    ensures survives { Survives (state S.Store tx.old.conn.now) (state S.Store tx.new.conn.now)
+        (λ _. ⊥) }
+{
+    let values = [
+        ValueRef::Text(line.table.as_str().as_bytes()),
+        ValueRef::Blob(id_bytes(&line.id)),
+        ValueRef::Text(a.column.as_str().as_bytes()),
+        ValueRef::Blob(a.body.as_slice()),
+        ValueRef::Text(b.column.as_str().as_bytes()),
+        ValueRef::Blob(b.body.as_slice()),
+        ValueRef::Text(c.column.as_str().as_bytes()),
+        ValueRef::Blob(c.body.as_slice()),
+        ValueRef::Text(d.column.as_str().as_bytes()),
+        ValueRef::Blob(d.body.as_slice()),
+    ];
+    tx.execute(
+        "INSERT INTO cell(tbl,id,col,body) VALUES(?1,?2,?3,?4),(?1,?2,?5,?6),(?1,?2,?7,?8),(?1,?2,?9,?10)",
+        &values,
+    )?;
+    Ok(())
+}
+
+/// Adds cells to a row that is there, one by one.
+fn insert_each<S: Alter>(
+    tx: &mut Transaction<'_, S>,
+    line: &CellLine,
+    cells: &[Cell],
+) -> Result<(), Error>
+    ensures same_reference { tx.new.conn.ghost_name ≡ tx.old.conn.ghost_name }
+    ensures ok { DoesInsideIf (MayHave (line.now.table, line.now.id) (λ _. Unit {0}))
+        (λ text. Makes text (AreAdded (line.now.table, line.now.id) (map cell_entry cells.now)))
+        (state S.Store tx.old.conn.now) (state S.Store tx.new.conn.now) result }
+    ensures goes_on { GoesOnInside (state S.Store tx.old.conn.now)
+        (state S.Store tx.new.conn.now) result }
+    ensures kept { CommitsNothing (state S.Store tx.old.conn.now) (state S.Store tx.new.conn.now) }
+    ensures survives { Survives (state S.Store tx.old.conn.now) (state S.Store tx.new.conn.now)
+        (λ _. ⊥) }
+{
+    for cell in cells {
+        insert_cell(tx, line, cell)?;
+    }
+    Ok(())
+}
+
+/// Adds the cells of a row, whose head is there without any: four by one statement, while there are four.
 fn insert_cells<S: Alter>(tx: &mut Transaction<'_, S>, line: &CellLine) -> Result<(), Error>
     ensures same_reference { tx.new.conn.ghost_name ≡ tx.old.conn.ghost_name }
     ensures ok { DoesInsideIf (MayHave (line.now.table, line.now.id)
@@ -151,14 +219,24 @@ fn insert_cells<S: Alter>(tx: &mut Transaction<'_, S>, line: &CellLine) -> Resul
     ensures survives { Survives (state S.Store tx.old.conn.now) (state S.Store tx.new.conn.now)
         (λ _. ⊥) }
 {
-    for cell in line.cells.as_slice() {
-        insert_cell(tx, line, cell)?;
+    let cells = line.cells.as_slice();
+    let mut done = 0;
+    while cells.len() - done >= 4 {
+        insert_four(
+            tx,
+            line,
+            &cells[done],
+            &cells[done + 1],
+            &cells[done + 2],
+            &cells[done + 3],
+        )?;
+        done += 4;
     }
-    Ok(())
+    insert_each(tx, line, &cells[done..])
 }
 
-/// Puts a row in place of the one with its key.
-fn put_row<S: Alter>(tx: &mut Transaction<'_, S>, line: &CellLine) -> Result<(), Error>
+/// Removes the row of this key with all its cells, if there is one, and puts this one in its place.
+fn replace_row<S: Alter>(tx: &mut Transaction<'_, S>, line: &CellLine) -> Result<(), Error>
     ensures same_reference { tx.new.conn.ghost_name ≡ tx.old.conn.ghost_name }
     ensures ok { DoesInside (λ text. Makes text (Becomes
         (λ m. insert m (cell_line_entry line.now).0 (cell_line_entry line.now).1)))
@@ -174,6 +252,27 @@ fn put_row<S: Alter>(tx: &mut Transaction<'_, S>, line: &CellLine) -> Result<(),
     remove_row(tx, line.table.as_str(), line.id)?;
     insert_head(tx, line)?;
     insert_cells(tx, line)
+}
+
+/// Puts a row in place of the one with its key. A new row takes only what adds it: where SQLite takes its head, there was none.
+fn put_row<S: Alter>(tx: &mut Transaction<'_, S>, line: &CellLine) -> Result<(), Error>
+    ensures same_reference { tx.new.conn.ghost_name ≡ tx.old.conn.ghost_name }
+    ensures ok { DoesInside (λ text. Makes text (Becomes
+        (λ m. insert m (cell_line_entry line.now).0 (cell_line_entry line.now).1)))
+        (state S.Store tx.old.conn.now) (state S.Store tx.new.conn.now) result }
+    ensures opened { WasOpenInside (state S.Store tx.old.conn.now)
+        (state S.Store tx.new.conn.now) result }
+    ensures goes_on { GoesOnInside (state S.Store tx.old.conn.now)
+        (state S.Store tx.new.conn.now) result }
+    ensures kept { CommitsNothing (state S.Store tx.old.conn.now) (state S.Store tx.new.conn.now) }
+    ensures survives { Survives (state S.Store tx.old.conn.now) (state S.Store tx.new.conn.now)
+        (λ _. ⊥) }
+{
+    match insert_head(tx, line) {
+        Ok(()) => insert_cells(tx, line),
+        Err(Error::SqliteFailure(ErrorCode::ConstraintViolation(_))) => replace_row(tx, line),
+        Err(other) => Err(other),
+    }
 }
 
 fn apply<S: Alter>(tx: &mut Transaction<'_, S>, change: &Change) -> Result<(), Error>
