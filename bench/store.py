@@ -42,6 +42,8 @@ TABLES = (
     "CREATE TABLE cell(tbl TEXT, id BLOB, col TEXT, body BLOB, PRIMARY KEY(tbl,id,col))",
 )
 
+FOUR_CELLS = "INSERT INTO cell(tbl,id,col,body) VALUES(?1,?2,?3,?4),(?1,?2,?5,?6),(?1,?2,?7,?8),(?1,?2,?9,?10)"
+
 
 def switch(number, load):
     """A row, by the number and the load of its switch, as `ov_store_bench` makes it: its head, and its cells."""
@@ -94,11 +96,14 @@ class Peer:
         start = time.perf_counter_ns()
         run("BEGIN")
         for head, cells in rows:
-            run("DELETE FROM cell WHERE tbl=?1 AND id=?2", head[:2])
-            if run("UPDATE head SET ver=?3 WHERE tbl=?1 AND id=?2", head).rowcount == 0:
+            try:
                 run("INSERT INTO head(tbl,id,ver) VALUES(?1,?2,?3)", head)
-            for cell in cells:
-                run("INSERT INTO cell(tbl,id,col,body) VALUES(?1,?2,?3,?4)", cell)
+            except sqlite3.IntegrityError:
+                run("DELETE FROM cell WHERE tbl=?1 AND id=?2", head[:2])
+                run("DELETE FROM head WHERE tbl=?1 AND id=?2", head[:2])
+                run("INSERT INTO head(tbl,id,ver) VALUES(?1,?2,?3)", head)
+            columns = [part for cell in cells for part in cell[2:]]
+            run(FOUR_CELLS, (*head[:2], *columns))
         run("COMMIT")
         return time.perf_counter_ns() - start
 
