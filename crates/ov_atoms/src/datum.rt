@@ -72,7 +72,9 @@ impl Datum {
 
     /// The map of these pairs, in any order, or `None` if a key has two values. Equal pairs merge.
     pub fn of_pairs(alloc: Global, pairs: Vec<(Atom, Atom)>) -> Result<Option<Datum>, AllocError>
-        ensures { IfOk result (λ o. o ≡ (if has_clash (pairs_view pairs.items) then None else Some (value.Pairs (value.map_of (pairs_view pairs.items))))) }
+        ensures { IfOk result (λ o. o
+            ≡ (if has_clash (pairs_view pairs.items) then None else Some
+            (value.Pairs (value.map_of (pairs_view pairs.items))))) }
     {
         let mut pairs = pairs;
         // This sort merges ascending lists, such as those of two maps, in one pass.
@@ -87,7 +89,9 @@ impl Datum {
 
     /// The map of these pairs, some of which have the same key.
     fn of_repeated(alloc: Global, pairs: Vec<(Atom, Atom)>) -> Result<Option<Datum>, AllocError>
-        ensures { IfOk result (λ o. o ≡ (if has_clash (pairs_view pairs.items) then None else Some (value.Pairs (value.map_of (pairs_view pairs.items))))) }
+        ensures { IfOk result (λ o. o
+            ≡ (if has_clash (pairs_view pairs.items) then None else Some
+            (value.Pairs (value.map_of (pairs_view pairs.items))))) }
     {
         let Some(merged) = merge_pairs(alloc, pairs)? else {
             return Ok(None);
@@ -200,7 +204,9 @@ fn merge_pairs(
     alloc: Global,
     pairs: Vec<(Atom, Atom)>,
 ) -> Result<Option<BTreeMap<Atom, Atom>>, AllocError>
-    ensures { IfOk result (λ o. option_map (λ m. value.map_of (pairs_view m.entries)) o ≡ (if has_clash (pairs_view pairs.items) then None else Some (value.map_of (pairs_view pairs.items)))) }
+    ensures { IfOk result (λ o. option_map (λ m. value.map_of (pairs_view m.entries)) o
+        ≡ (if has_clash (pairs_view pairs.items) then None else Some
+        (value.map_of (pairs_view pairs.items)))) }
 {
     let mut map = BTreeMap::new(alloc);
     for (key, value) in pairs {

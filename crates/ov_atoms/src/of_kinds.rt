@@ -1,7 +1,8 @@
 ghost use Rattle.std.specs.Prelude.{◌≡◌};
 ghost use Rattle.std.specs.List.{list_all};
 ghost use Rattle.ov_specs.specs.values.Value.{is_in_64_bits, is_atom_of, is_pair_of, is_of};
-ghost use Rattle.ov_atoms.specs.Views.{kind_view, kinds_view, atom_view, pair_view, atoms_view, pairs_view};
+ghost use Rattle.ov_atoms.specs.Views.{kind_view, kinds_view, atom_view, pair_view, atoms_view};
+ghost use Rattle.ov_atoms.specs.Views.{pairs_view};
 
 use crate::atom::Atom;
 use crate::datum::{Datum, SortedElements};
@@ -40,7 +41,8 @@ fn are_atoms_of(atoms: &[Atom], kind: AtomKind) -> bool
 }
 
 fn are_pairs_of(pairs: &[(Atom, Atom)], key: AtomKind, value: AtomKind) -> bool
-    ensures { result ≡ list_all (is_pair_of (kind_view key) (kind_view value)) (pairs_view pairs.now) }
+    ensures { result
+        ≡ list_all (is_pair_of (kind_view key) (kind_view value)) (pairs_view pairs.now) }
 {
     for pair in pairs {
         if !is_pair_of(pair, key, value) {

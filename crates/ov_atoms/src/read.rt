@@ -3,8 +3,10 @@ ghost use Rattle.serde_json.specs.Find.{as_number, as_str};
 ghost use Rattle.serde_json.specs.View.{view, items_view};
 ghost use Rattle.ov_specs.specs.values.Uuid.{AreUuids};
 ghost use Rattle.ov_specs.specs.values.Value.{has_nul, is_text, is_atom_of, is_of};
-ghost use Rattle.ov_specs.specs.values.Reading.{integer_read, text_read, atom_read, pair_read, each_read, atoms_read, pairs_read, reads};
-ghost use Rattle.ov_atoms.specs.Views.{kind_view, kinds_view, atom_view, pair_view, atoms_view, pairs_view};
+ghost use Rattle.ov_specs.specs.values.Reading.{integer_read, text_read, atom_read, pair_read};
+ghost use Rattle.ov_specs.specs.values.Reading.{each_read, atoms_read, pairs_read, reads};
+ghost use Rattle.ov_atoms.specs.Views.{kind_view, kinds_view, atom_view, pair_view, atoms_view};
+ghost use Rattle.ov_atoms.specs.Views.{pairs_view};
 ghost use Rattle.ov_atoms.specs.Answers.{IsAnswer, reading_of};
 
 use crate::atom::Atom;
@@ -66,7 +68,8 @@ fn atom_of<N: Names>(
     kind: AtomKind,
     names: &N,
 ) -> Result<Option<Atom>, AllocError>
-    ensures { IfOk result (λ o. option_map atom_view o ≡ atom_read (N.names names.now) (kind_view kind) (view tree.now)) }
+    ensures { IfOk result (λ o. option_map atom_view o
+        ≡ atom_read (N.names names.now) (kind_view kind) (view tree.now)) }
 {
     match kind {
         AtomKind::Integer => Ok(integer_of(tree).map(Atom::Integer)),
@@ -83,8 +86,10 @@ pub fn read_atom<N: Names>(
     kind: AtomKind,
     names: &N,
 ) -> Result<Atom, AtomFault>
-    ensures value { IsAnswer atom_view (reading_of (atom_read (N.names names.now) (kind_view kind) (view tree.now))) result }
-    ensures of_kind { AreUuids (N.names names.now) → IfOk result (λ a. is_atom_of (kind_view kind) (atom_view a) ≡ true) }
+    ensures value { IsAnswer atom_view
+        (reading_of (atom_read (N.names names.now) (kind_view kind) (view tree.now))) result }
+    ensures of_kind { AreUuids (N.names names.now)
+        → IfOk result (λ a. is_atom_of (kind_view kind) (atom_view a) ≡ true) }
 {
     atom_of(alloc, tree, kind, names)?.ok_or(AtomFault::Syntax)
 }
@@ -95,7 +100,8 @@ fn each_atom<N: Names>(
     kind: AtomKind,
     names: &N,
 ) -> Result<Option<Vec<Atom>>, AllocError>
-    ensures { IfOk result (λ o. option_map (λ v. atoms_view v.items) o ≡ each_read (atom_read (N.names names.now) (kind_view kind)) (items_view items.now.items)) }
+    ensures { IfOk result (λ o. option_map (λ v. atoms_view v.items) o
+        ≡ each_read (atom_read (N.names names.now) (kind_view kind)) (items_view items.now.items)) }
 {
     let mut atoms = Vec::with_capacity(alloc, items.len())?;
     for item in items {
@@ -114,7 +120,8 @@ fn atoms_of<N: Names>(
     kind: AtomKind,
     names: &N,
 ) -> Result<Option<Vec<Atom>>, AllocError>
-    ensures { IfOk result (λ o. option_map (λ v. atoms_view v.items) o ≡ atoms_read (N.names names.now) (kind_view kind) (view tree.now)) }
+    ensures { IfOk result (λ o. option_map (λ v. atoms_view v.items) o
+        ≡ atoms_read (N.names names.now) (kind_view kind) (view tree.now)) }
 {
     match tagged("set", tree) {
         Some(list) => match list.as_array() {
@@ -139,7 +146,8 @@ fn pair_of<N: Names>(
     value: AtomKind,
     names: &N,
 ) -> Result<Option<(Atom, Atom)>, AllocError>
-    ensures { IfOk result (λ o. option_map pair_view o ≡ pair_read (N.names names.now) (kind_view key) (kind_view value) (view tree.now)) }
+    ensures { IfOk result (λ o. option_map pair_view o
+        ≡ pair_read (N.names names.now) (kind_view key) (kind_view value) (view tree.now)) }
 {
     let Some((first, second)) = as_two(tree) else {
         return Ok(None);
@@ -160,7 +168,9 @@ fn each_pair<N: Names>(
     value: AtomKind,
     names: &N,
 ) -> Result<Option<Vec<(Atom, Atom)>>, AllocError>
-    ensures { IfOk result (λ o. option_map (λ v. pairs_view v.items) o ≡ each_read (pair_read (N.names names.now) (kind_view key) (kind_view value)) (items_view items.now.items)) }
+    ensures { IfOk result (λ o. option_map (λ v. pairs_view v.items) o
+        ≡ each_read (pair_read (N.names names.now) (kind_view key) (kind_view value))
+        (items_view items.now.items)) }
 {
     let mut pairs = Vec::with_capacity(alloc, items.len())?;
     for item in items {
@@ -180,7 +190,8 @@ fn pairs_of<N: Names>(
     value: AtomKind,
     names: &N,
 ) -> Result<Option<Vec<(Atom, Atom)>>, AllocError>
-    ensures { IfOk result (λ o. option_map (λ v. pairs_view v.items) o ≡ pairs_read (N.names names.now) (kind_view key) (kind_view value) (view tree.now)) }
+    ensures { IfOk result (λ o. option_map (λ v. pairs_view v.items) o
+        ≡ pairs_read (N.names names.now) (kind_view key) (kind_view value) (view tree.now)) }
 {
     match tagged("map", tree) {
         Some(list) => match list.as_array() {
@@ -200,8 +211,10 @@ pub fn read_datum<N: Names>(
     kinds: Kinds,
     names: &N,
 ) -> Result<Datum, AtomFault>
-    ensures value { IsAnswer (λ d. d) (reads (N.names names.now) (kinds_view kinds) (view tree.now)) result }
-    ensures of_kinds { AreUuids (N.names names.now) → IfOk result (λ d. is_of (kinds_view kinds) d ≡ true) }
+    ensures value { IsAnswer (λ d. d) (reads (N.names names.now) (kinds_view kinds) (view tree.now))
+        result }
+    ensures of_kinds { AreUuids (N.names names.now)
+        → IfOk result (λ d. is_of (kinds_view kinds) d ≡ true) }
 {
     match kinds {
         Kinds::Single(kind) => match atoms_of(alloc, tree, kind, names)? {

@@ -48,7 +48,8 @@ fn put_pairs(out: &mut Writer, pairs: &[(Atom, Atom)]) -> Result<(), AllocError>
 }
 
 fn put_each_atom(out: &mut Writer, atoms: &[Atom]) -> Result<(), AllocError>
-    ensures { Puts result out.old out.new (flat_map (λ a. tokens_of (atom_tree a)) (atoms_view atoms.now)) }
+    ensures { Puts result out.old out.new
+        (flat_map (λ a. tokens_of (atom_tree a)) (atoms_view atoms.now)) }
 {
     for atom in atoms {
         put_atom(out, atom)?;
@@ -57,7 +58,8 @@ fn put_each_atom(out: &mut Writer, atoms: &[Atom]) -> Result<(), AllocError>
 }
 
 fn put_each_pair(out: &mut Writer, pairs: &[(Atom, Atom)]) -> Result<(), AllocError>
-    ensures { Puts result out.old out.new (flat_map (λ p. tokens_of (pair_tree p)) (pairs_view pairs.now)) }
+    ensures { Puts result out.old out.new
+        (flat_map (λ p. tokens_of (pair_tree p)) (pairs_view pairs.now)) }
 {
     for pair in pairs {
         put_pair(out, pair)?;

@@ -5,7 +5,8 @@ ghost use Rattle.ov_specs.specs.wire.Tree.{has_real};
 ghost use Rattle.ov_specs.specs.values.Value.{Kinds, is_of};
 ghost use Rattle.ov_specs.specs.values.Uuid.{Names};
 ghost use Rattle.ov_specs.specs.values.Reading.{Reads, reads};
-ghost use Rattle.ov_specs.specs.values.Writing.{two, atom_tree, pair_tree, set_tree, map_tree, tree};
+ghost use Rattle.ov_specs.specs.values.Writing.{two, atom_tree, pair_tree, set_tree, map_tree};
+ghost use Rattle.ov_specs.specs.values.Writing.{tree};
 ghost use Rattle.ov_atoms.specs.Views.{atom_view, pair_view, atoms_view, pairs_view};
 
 use crate::atom::Atom;
@@ -96,7 +97,9 @@ fn write_pairs(alloc: Global, pairs: &[(Atom, Atom)]) -> Result<Value, AllocErro
 pub fn write_datum(alloc: Global, datum: &Datum) -> Result<Value, AllocError>
     ensures written { IfOk result (λ v. view v ≡ tree datum.now) }
     ensures plain { IfOk result (λ v. has_real (view v) ≡ false) }
-    ensures reads_back { IfOk result (λ v. (names : Names) (kinds : Kinds) → is_of kinds datum.now ≡ true → reads names kinds (view v) ≡ Reads datum.now) }
+    ensures reads_back { IfOk result (λ v. (names : Names) (kinds : Kinds) → is_of kinds datum.now
+        ≡ true
+        → reads names kinds (view v) ≡ Reads datum.now) }
 {
     match &datum.parts {
         SortedElements::Atoms(atoms) => write_atoms(alloc, atoms.as_slice()),

@@ -53,7 +53,8 @@ impl Tree {
     /// nests at most 127 deep, the text reads back as the tree.
     pub fn to_bytes(&self, alloc: Global) -> Result<Bytes, AllocError>
         ensures text { IfOk result (λ b. b ≡ compact_text self.now) }
-        ensures reads_back { depth self.now ≤ max_depth → IfOk result (λ b. tree_of b ≡ Some self.now) }
+        ensures reads_back { depth self.now ≤ max_depth
+            → IfOk result (λ b. tree_of b ≡ Some self.now) }
     {
         Ok(Bytes::from_vec(self.value.to_vec(alloc)?))
     }

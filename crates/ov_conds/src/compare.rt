@@ -45,7 +45,8 @@ fn are_pairs(first: &[(Atom, Atom)], second: &[(Atom, Atom)]) -> bool
 impl Elements<'_> {
     /// Whether both are the same set or map.
     fn is_same(self, other: Elements<'_>) -> bool
-        ensures { result ≡ compared.are_same (elements_view self.entry) (elements_view other.entry) }
+        ensures { result
+            ≡ compared.are_same (elements_view self.entry) (elements_view other.entry) }
     {
         match (self, other) {
             (Elements::Atoms(atoms), Elements::Atoms(others)) => are_atoms(atoms, others),
@@ -56,7 +57,8 @@ impl Elements<'_> {
 
     /// Whether everything in the value is here.
     fn includes(self, value: Elements<'_>) -> bool
-        ensures { result ≡ compared.includes (elements_view self.entry) (elements_view value.entry) }
+        ensures { result
+            ≡ compared.includes (elements_view self.entry) (elements_view value.entry) }
     {
         match (self, value) {
             (Elements::Atoms(column), Elements::Atoms(value)) => includes_atoms(column, value),
@@ -67,7 +69,8 @@ impl Elements<'_> {
 
     /// Whether nothing in the value is here.
     fn excludes(self, value: Elements<'_>) -> bool
-        ensures { result ≡ compared.excludes (elements_view self.entry) (elements_view value.entry) }
+        ensures { result
+            ≡ compared.excludes (elements_view self.entry) (elements_view value.entry) }
     {
         match (self, value) {
             (Elements::Atoms(column), Elements::Atoms(value)) => excludes_atoms(column, value),
@@ -80,7 +83,9 @@ impl Elements<'_> {
 impl Function {
     /// Whether a column with these contents stands in this relation to the value (RFC 7047, 5.1, `<function>`).
     pub(crate) fn compares(self, column: Elements<'_>, value: Elements<'_>) -> bool
-        ensures { result ≡ compared.compares (function_view self) (elements_view column.entry) (elements_view value.entry) }
+        ensures { result
+            ≡ compared.compares (function_view self) (elements_view column.entry)
+            (elements_view value.entry) }
     {
         match self {
             Function::Less => is_below(column.number(), value.number()),

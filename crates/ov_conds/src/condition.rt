@@ -1,6 +1,7 @@
 ghost use Rattle.std.specs.Prelude.{◌≡◌, true, IfOk, IfSome, option_copied};
 ghost use Rattle.serde_json.specs.View.{view};
-ghost use Rattle.ov_specs.specs.operations.Conditions.{column_value, holds, compares, value_read, condition_read, suits_condition};
+ghost use Rattle.ov_specs.specs.operations.Conditions.{column_value, holds, compares, value_read};
+ghost use Rattle.ov_specs.specs.operations.Conditions.{condition_read, suits_condition};
 ghost use Rattle.ov_specs.specs.rows.Database.{one_uuid};
 ghost use Rattle.ov_specs.specs.values.Reading.{reads};
 ghost use Rattle.ov_specs.specs.values.Uuid.{AreUuids};
@@ -53,8 +54,10 @@ impl Condition {
         tree: &Value,
         names: &N,
     ) -> Result<Condition, ConditionFault>
-        ensures value { IsConditionRead (condition_read (N.names names.now) table.now (view tree.now)) result }
-        ensures suits { AreUuids (N.names names.now) → IfOk result (λ c. suits_condition table.now c ≡ true) }
+        ensures value { IsConditionRead
+            (condition_read (N.names names.now) table.now (view tree.now)) result }
+        ensures suits { AreUuids (N.names names.now)
+            → IfOk result (λ c. suits_condition table.now c ≡ true) }
     {
         let Some(parts) = Triple::read(tree) else {
             return Err(ConditionFault::Syntax);
@@ -75,7 +78,9 @@ impl Condition {
 
     /// Whether a row meets the condition. A row that lacks the column meets none (RFC 7047, 5.1, `<condition>`).
     pub fn holds(&self, row: &RowView<'_>) -> bool
-        ensures { result ≡ holds (column_value row.now.id.now row.now.row.now.version row.now.row.now.columns) self.now }
+        ensures { result
+            ≡ holds (column_value row.now.id.now row.now.row.now.version row.now.row.now.columns)
+            self.now }
     {
         let name = self.column.as_str();
         let stored = row.row;
@@ -157,7 +162,10 @@ fn read_value<N: Names>(
     tree: &Value,
     names: &N,
 ) -> Result<Datum, ConditionFault>
-    ensures { IsConditionRead (value_read column.now.type_of (function_view function) (reads (N.names names.now) (kinds_of column.now.type_of) (view tree.now))) result }
+    ensures { IsConditionRead
+        (value_read column.now.type_of (function_view function)
+        (reads (N.names names.now) (kinds_of column.now.type_of) (view tree.now)))
+        result }
 {
     let value = read_datum(alloc, tree, column.kinds(), names)?;
     if (column.is_scalar() || function.is_relation()) && value.count() != 1 {

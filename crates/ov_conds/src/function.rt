@@ -1,5 +1,7 @@
 ghost use Rattle.std.specs.Prelude.{◌≡◌, ◌&&◌, is_none, option_map};
-ghost use Rattle.ov_specs.specs.operations.Conditions.{function_of, is_integers, is_relation, allows_relations, allows_function, function_on};
+ghost use Rattle.ov_specs.specs.operations.Conditions.{function_of, is_integers, is_relation};
+ghost use Rattle.ov_specs.specs.operations.Conditions.{allows_relations, allows_function};
+ghost use Rattle.ov_specs.specs.operations.Conditions.{function_on};
 ghost use Rattle.ov_conds.specs.Views.{function_view};
 
 use ov_atoms::{AtomKind, Kinds};
@@ -84,7 +86,8 @@ fn allows_relations(column: &Column) -> bool
 
 /// Whether a column holds integers, one or a set of them.
 pub fn holds_integers(column: &Column) -> bool
-    ensures { result ≡ (is_none column.now.type_of.value && is_integers column.now.type_of.key.kind) }
+    ensures { result
+        ≡ (is_none column.now.type_of.value && is_integers column.now.type_of.key.kind) }
 {
     matches!(column.kinds(), Kinds::Single(AtomKind::Integer))
 }

@@ -1,7 +1,8 @@
 ghost use Rattle.std.specs.Prelude.{◌≡◌};
 ghost use Rattle.ov_atoms.specs.Views.{atom_view, atoms_view, pairs_view};
 ghost use Rattle.ov_conds.specs.Walks as walks;
-ghost use Rattle.ov_conds.specs.Walks.{includes_atoms, includes_pairs, excludes_atoms, excludes_pairs};
+ghost use Rattle.ov_conds.specs.Walks.{includes_atoms, includes_pairs, excludes_atoms};
+ghost use Rattle.ov_conds.specs.Walks.{excludes_pairs};
 
 use ov_atoms::Atom;
 

@@ -19,7 +19,8 @@ fn carried_value(
     name: &str,
     column: &Column,
 ) -> Result<Datum, AllocError>
-    ensures { IfOk result (λ datum. datum ≡ spec.carried_value old.now columns.now (name.now, column.now)) }
+    ensures { IfOk result (λ datum. datum
+        ≡ spec.carried_value old.now columns.now (name.now, column.now)) }
 {
     if is_own(name) || old.column(name).is_none() {
         return column.default_of(alloc);
@@ -73,7 +74,8 @@ fn carried_row(
     key: &RowKey,
     row: &Row,
 ) -> Result<Option<Row>, AllocError>
-    ensures { IfOk result (λ carried. carried ≡ carried_at old.now new.now version before.now key.now row.now) }
+    ensures { IfOk result (λ carried. carried
+        ≡ carried_at old.now new.now version before.now key.now row.now) }
 {
     let Some(from) = old.table(key.table()) else {
         return Ok(None);
@@ -95,7 +97,8 @@ fn carry(
     key: &RowKey,
     rows: &mut Rows,
 ) -> Result<(), AllocError>
-    ensures { OnOk result (rows.new ≡ with_row key.now (carried_of old.now new.now version before.now key.now) rows.old) }
+    ensures { OnOk result (rows.new
+        ≡ with_row key.now (carried_of old.now new.now version before.now key.now) rows.old) }
 {
     let Some(row) = before.row(key.table(), key.id()) else {
         return Ok(());

@@ -28,7 +28,8 @@ pub(crate) fn committed(
     version: Uuid,
     rows: Rows,
 ) -> Result<Rows, ConversionFault>
-    requires former { (key : LineKey) (row : database.Row) → get before.now key ≡ Some row → is_uuid row.version ≡ true }
+    requires former { (key : LineKey) (row : database.Row) → get before.now key ≡ Some row
+        → is_uuid row.version ≡ true }
     requires suits { Suits schema.now rows }
     ensures ok { IfOk result (λ left. spec.committed schema.now before.now version rows ≡ Ok left) }
     ensures suits { IfOk result (Suits schema.now) }

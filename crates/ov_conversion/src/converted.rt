@@ -31,7 +31,8 @@ pub fn converted_rows(
 ) -> Result<Rows, ConversionFault>
     requires suits { Suits old.now before.now }
     requires same_types { has_changed_type old.now new.now ≡ false }
-    ensures ok { IfOk result (λ rows. spec.converted_rows old.now new.now version before.now ≡ Ok rows) }
+    ensures ok { IfOk result (λ rows. spec.converted_rows old.now new.now version before.now
+        ≡ Ok rows) }
     ensures suits { IfOk result (Suits new.now) }
     ensures whole { IfOk result (λ rows. is_whole new.now rows ≡ true) }
     ensures err { IfErr result (λ why. why ≡ faults.NotConvertible

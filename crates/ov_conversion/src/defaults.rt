@@ -96,7 +96,9 @@ fn is_any_unfit_table(
     tables: &[(Text, Table)],
 ) -> Result<bool, AllocError>
     ensures { IfOk result (λ gets. gets
-        ≡ list_any (λ t. is_some_and (gets_unfit_column old.now rows.now t.0) (get new.now.tables t.0)) tables.now) }
+        ≡ list_any
+        (λ t. is_some_and (gets_unfit_column old.now rows.now t.0) (get new.now.tables t.0))
+        tables.now) }
 {
     for (name, _table) in tables {
         if is_unfit_table(alloc, old, new, rows, name.as_str())? {

@@ -12,7 +12,8 @@ fn push_keys(
     name: &str,
     rows: &TableRows,
 ) -> Result<(), AllocError>
-    ensures { OnOk result (found.new.items ≡ found.old.items ++ map (λ r. r.0) (in_table name.now (entries rows.now))) }
+    ensures { OnOk result (found.new.items
+        ≡ found.old.items ++ map (λ r. r.0) (in_table name.now (entries rows.now))) }
 {
     for (id, _row) in rows.map() {
         found.push(RowKey::new(alloc, name, *id.as_uuid())?)?;

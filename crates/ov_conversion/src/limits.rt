@@ -49,7 +49,8 @@ fn is_short(schema: &Schema, rows: &Rows, key: &RowKey) -> bool
 
 /// Whether a value of a row has fewer atoms or pairs than its column's `min`.
 fn are_short(alloc: Global, schema: &Schema, rows: &Rows) -> Result<bool, AllocError>
-    ensures { IfOk result (λ short. short ≡ list_any (limits.is_short schema.now) (entries rows.now)) }
+    ensures { IfOk result (λ short. short
+        ≡ list_any (limits.is_short schema.now) (entries rows.now)) }
 {
     for key in keys_of(alloc, rows)? {
         if is_short(schema, rows, &key) {
@@ -75,9 +76,11 @@ pub(crate) fn breaks_a_limit(
     schema: &Schema,
     rows: &Rows,
 ) -> Result<bool, AllocError>
-    requires suits { list_any (limits.is_short schema.now) (entries rows.now) ≡ false → Suits schema.now rows.now }
+    requires suits { list_any (limits.is_short schema.now) (entries rows.now) ≡ false
+        → Suits schema.now rows.now }
     ensures { IfOk result (λ broken. broken
-        ≡ (list_any (limits.is_short schema.now) (entries rows.now) || limits.is_over_limits schema.now rows.now)) }
+        ≡ (list_any (limits.is_short schema.now) (entries rows.now) || limits.is_over_limits
+        schema.now rows.now)) }
 {
     if are_short(alloc, schema, rows)? {
         return Ok(true);

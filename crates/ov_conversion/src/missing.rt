@@ -18,7 +18,8 @@ fn row_misses(
     key: &RowKey,
     row: &Row,
 ) -> Result<bool, AllocError>
-    ensures { IfOk result (λ misses. misses ≡ list_any (is_missing rows.now) (row_references schema.now (key.now, row.now))) }
+    ensures { IfOk result (λ misses. misses
+        ≡ list_any (is_missing rows.now) (row_references schema.now (key.now, row.now))) }
 {
     for target in targets_of(alloc, schema, key.table(), &row.columns)? {
         if target.is_strong && !rows.contains(&target.key) {
@@ -31,7 +32,8 @@ fn row_misses(
 /// Whether there is a row of this key that refers strongly to a missing row.
 fn misses_at(alloc: Global, schema: &Schema, rows: &Rows, key: &RowKey) -> Result<bool, AllocError>
     ensures { IfOk result (λ misses. misses
-        ≡ at_key (λ r. list_any (is_missing rows.now) (row_references schema.now r)) rows.now key.now) }
+        ≡ at_key (λ r. list_any (is_missing rows.now) (row_references schema.now r)) rows.now
+        key.now) }
 {
     match rows.row(key.table(), key.id()) {
         Some(row) => row_misses(alloc, schema, rows, key, row),
@@ -41,7 +43,8 @@ fn misses_at(alloc: Global, schema: &Schema, rows: &Rows, key: &RowKey) -> Resul
 
 /// Whether a strong reference is to a missing row (RFC 7047, 3.2, `<base-type>`, refType).
 pub(crate) fn misses(alloc: Global, schema: &Schema, rows: &Rows) -> Result<bool, AllocError>
-    ensures { IfOk result (λ misses. misses ≡ list_any (is_missing rows.now) (references schema.now rows.now)) }
+    ensures { IfOk result (λ misses. misses
+        ≡ list_any (is_missing rows.now) (references schema.now rows.now)) }
 {
     for key in keys_of(alloc, rows)? {
         if misses_at(alloc, schema, rows, &key)? {

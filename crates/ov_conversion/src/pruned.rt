@@ -27,7 +27,9 @@ fn stays(
     atom: &Atom,
 ) -> Result<bool, AllocError>
     ensures { IfOk result (λ stays. stays
-        ≡ not (is_some_and (is_dangling rows.now) (target_of (option_copied refers.entry) (atom_view atom.now)))) }
+        ≡ not
+        (is_some_and (is_dangling rows.now)
+        (target_of (option_copied refers.entry) (atom_view atom.now)))) }
 {
     let Some(refers) = refers else {
         return Ok(true);
@@ -67,7 +69,8 @@ fn pair_stays(
     column: &Column,
     pair: &(Atom, Atom),
 ) -> Result<bool, AllocError>
-    ensures { IfOk result (λ it_stays. it_stays ≡ committed.pair_stays rows.now column.now.type_of (pair_view pair.now)) }
+    ensures { IfOk result (λ it_stays. it_stays
+        ≡ committed.pair_stays rows.now column.now.type_of (pair_view pair.now)) }
 {
     Ok(
         stays(alloc, rows, column.key_refers(), &pair.0)?
@@ -101,7 +104,8 @@ fn pruned_datum(
     column: &Column,
     datum: &Datum,
 ) -> Result<Datum, AllocError>
-    ensures { IfOk result (λ left. left ≡ committed.pruned_datum rows.now column.now.type_of datum.now) }
+    ensures { IfOk result (λ left. left
+        ≡ committed.pruned_datum rows.now column.now.type_of datum.now) }
 {
     if let Some(atoms) = datum.atoms() {
         return Datum::of_atoms(pruned_atoms(alloc, rows, column, atoms)?);
@@ -125,7 +129,8 @@ fn pruned_columns(
     table: &Table,
     columns: &Columns,
 ) -> Result<Columns, AllocError>
-    ensures { IfOk result (λ left. left ≡ committed.pruned_columns rows.now (Some table.now) columns.now) }
+    ensures { IfOk result (λ left. left
+        ≡ committed.pruned_columns rows.now (Some table.now) columns.now) }
 {
     let mut left = columns.copy(alloc)?;
     for (name, datum) in columns.names().iter().zip(columns.values()) {
@@ -145,7 +150,8 @@ fn dangles(
     key: &RowKey,
     row: &Row,
 ) -> Result<bool, AllocError>
-    ensures { IfOk result (λ it_dangles. it_dangles ≡ committed.dangles schema.now rows.now (key.now, row.now)) }
+    ensures { IfOk result (λ it_dangles. it_dangles
+        ≡ committed.dangles schema.now rows.now (key.now, row.now)) }
 {
     for target in targets_of(alloc, schema, key.table(), &row.columns)? {
         if !target.is_strong && !rows.contains(&target.key) {
@@ -165,7 +171,8 @@ fn repaired(
     key: &RowKey,
     row: &Row,
 ) -> Result<Option<Row>, AllocError>
-    ensures { IfOk result (λ left. left ≡ repaired schema.now before.now version rows.now key.now row.now) }
+    ensures { IfOk result (λ left. left
+        ≡ repaired schema.now before.now version rows.now key.now row.now) }
 {
     if !dangles(alloc, schema, rows, key, row)? {
         return Ok(None);
@@ -188,7 +195,8 @@ fn push_repaired(
     found: &mut Vec<(RowKey, Row)>,
 ) -> Result<(), AllocError>
     ensures { OnOk result (found.new.items
-        ≡ found.old.items ++ option_to_list (keyed (repaired_at schema.now before.now version rows.now) key)) }
+        ≡ found.old.items ++ option_to_list
+        (keyed (repaired_at schema.now before.now version rows.now) key)) }
 {
     let Some(row) = rows.row(key.table(), key.id()) else {
         return Ok(());

@@ -35,7 +35,9 @@ fn is_of_changed_type(old: &Table, name: &str, column: &Column) -> bool
 
 /// Whether the old table has one of these columns, with another type.
 fn is_any_of_changed_type(old: &Table, columns: &[(Text, Column)]) -> bool
-    ensures { result ≡ list_any (is_of_changed_type old.now) (filter (λ c. not (is_own_column c.0)) columns.now) }
+    ensures { result
+        ≡ list_any (is_of_changed_type old.now)
+        (filter (λ c. not (is_own_column c.0)) columns.now) }
 {
     for (name, column) in columns {
         if !is_own(name.as_str()) && is_of_changed_type(old, name.as_str(), column) {
@@ -57,7 +59,8 @@ fn has_changed_column(old: &Schema, name: &str, table: &Table) -> bool
 
 /// Whether both schemas have the table of this name, and a column of both tables has another type.
 fn is_changed_table(old: &Schema, new: &Schema, name: &str) -> bool
-    ensures { result ≡ is_some_and (has_changed_column old.now name.now) (get new.now.tables name.now) }
+    ensures { result
+        ≡ is_some_and (has_changed_column old.now name.now) (get new.now.tables name.now) }
 {
     match new.table(name) {
         Some(table) => has_changed_column(old, name, table),
@@ -67,7 +70,9 @@ fn is_changed_table(old: &Schema, new: &Schema, name: &str) -> bool
 
 /// Whether one of these tables is changed so.
 fn is_any_changed(old: &Schema, new: &Schema, tables: &[(Text, Table)]) -> bool
-    ensures { result ≡ list_any (λ t. is_some_and (has_changed_column old.now t.0) (get new.now.tables t.0)) tables.now }
+    ensures { result
+        ≡ list_any (λ t. is_some_and (has_changed_column old.now t.0) (get new.now.tables t.0))
+        tables.now }
 {
     for (name, _table) in tables {
         if is_changed_table(old, new, name.as_str()) {

@@ -36,7 +36,8 @@ fn add_target(
     target: Target,
     held: &mut KeySet,
 ) -> Result<(), AllocError>
-    ensures { OnOk result (Supports held.old (record { from = from.now; to = target } ∷ []) held.new) }
+    ensures { OnOk result
+        (Supports held.old (record { from = from.now; to = target } ∷ []) held.new) }
 {
     if !is_of_other(from, &target) {
         return Ok(());
@@ -53,7 +54,8 @@ fn add_targets(
     row: &Row,
     held: &mut KeySet,
 ) -> Result<(), AllocError>
-    ensures { OnOk result (Supports held.old (row_references schema.now (key.now, row.now)) held.new) }
+    ensures { OnOk result
+        (Supports held.old (row_references schema.now (key.now, row.now)) held.new) }
 {
     for target in targets_of(alloc, schema, key.table(), &row.columns)? {
         add_target(alloc, key, target, held)?;

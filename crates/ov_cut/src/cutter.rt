@@ -1,8 +1,10 @@
-ghost use Rattle.std.specs.Prelude.{◌≡◌, ◌≢◌, ◌↔◌, ◌+◌, ◌<◌, ◌≤◌, ℕ, List, [], ◌++◌, Some, None, IsSome, IsTrue, length, take, slice_get};
+ghost use Rattle.std.specs.Prelude.{◌≡◌, ◌≢◌, ◌↔◌, ◌+◌, ◌<◌, ◌≤◌, ℕ, List, [], ◌++◌, Some, None};
+ghost use Rattle.std.specs.Prelude.{IsSome, IsTrue, length, take, slice_get};
 ghost use Rattle.ov_specs.specs.wire.Cut.{cut};
 ghost use Rattle.ov_cut.specs.CutterState.{StandsFor, IsBeginning, offset_in_64_bits};
 ghost use Rattle.ov_cut.specs.Message.{IsBegunAs};
-ghost use Rattle.ov_cut.specs.Piece.{with_fault, advanced, KeepsMore, GivesMessage, TakesPiece, TakesFront, LooksAtFront};
+ghost use Rattle.ov_cut.specs.Piece.{with_fault, advanced, KeepsMore, GivesMessage, TakesPiece};
+ghost use Rattle.ov_cut.specs.Piece.{TakesFront, LooksAtFront};
 
 use crate::fault::CutFault;
 use crate::looks::Looks;
@@ -86,7 +88,8 @@ impl Cutter {
 
         // Each byte of the piece is looked at at most once, and those of earlier pieces not again; with no fault, each is.
         ensures looked { self.new.looked ≤ self.old.looked + length piece.now }
-        ensures looked_at_all { self.new.fault ≡ None → self.new.looked ≡ self.old.looked + length piece.now }
+        ensures looked_at_all { self.new.fault ≡ None
+            → self.new.looked ≡ self.old.looked + length piece.now }
     {
         let mut messages = Vec::new(alloc);
         let mut used = 0;
@@ -113,7 +116,8 @@ impl Cutter {
         requires some { 0 < length piece.now }
         ensures within { result ≤ length piece.now }
         ensures more { 0 < result }
-        ensures takes { TakesPiece self.old messages.old.items (take result piece.now) self.new messages.new.items }
+        ensures takes { TakesPiece self.old messages.old.items (take result piece.now) self.new
+            messages.new.items }
         ensures looked { self.new.looked ≤ self.old.looked + result }
         ensures looked_at_all { self.new.fault ≡ None → self.new.looked ≡ self.old.looked + result }
     {
@@ -135,7 +139,8 @@ impl Cutter {
     ) -> Result<usize, CutFault>
         requires sound { self.old.fault ≡ None }
         requires some { 0 < length piece.now }
-        ensures takes { TakesFront self.old messages.old.items piece.now result self.new messages.new.items }
+        ensures takes { TakesFront self.old messages.old.items piece.now result self.new
+            messages.new.items }
         ensures looked { LooksAtFront self.old.looked piece.now result self.new.looked }
     {
         let Some(scan) = self.scan else {
@@ -164,7 +169,8 @@ impl Cutter {
         requires sound { self.old.fault ≡ None }
         requires between { self.old.rest ≡ [] }
         requires some { 0 < length piece.now }
-        ensures takes { TakesFront self.old messages.old.items piece.now result self.new messages.new.items }
+        ensures takes { TakesFront self.old messages.old.items piece.now result self.new
+            messages.new.items }
         ensures looked { LooksAtFront self.old.looked piece.now result self.new.looked }
     {
         match find_gap(&mut self.looks, piece) {
@@ -190,7 +196,8 @@ impl Cutter {
         requires sound { self.old.fault ≡ None }
         requires between { self.old.rest ≡ [] }
         requires brace { slice_get piece.now 0 ≡ Some 123 }
-        ensures takes { TakesFront self.old messages.old.items piece.now result self.new messages.new.items }
+        ensures takes { TakesFront self.old messages.old.items piece.now result self.new
+            messages.new.items }
         ensures looked { LooksAtFront self.old.looked piece.now result (self.new.looked + 1) }
     {
         let (brace, following) = piece.split_at(1);
@@ -226,7 +233,8 @@ impl Cutter {
         messages: &mut Vec<Bytes>,
         end: &[u8],
     ) -> Result<(), CutFault>
-        ensures { GivesMessage self.old (self.old.rest ++ end.now) messages.old.items result self.new messages.new.items }
+        ensures { GivesMessage self.old (self.old.rest ++ end.now) messages.old.items result
+            self.new messages.new.items }
     {
         if self.rest.extend_from_slice(end).is_err() {
             return Err(CutFault::Memory);
@@ -245,7 +253,8 @@ impl Cutter {
         message: &[u8],
     ) -> Result<(), CutFault>
         requires { self.old.rest ≡ [] }
-        ensures { GivesMessage self.old message.now messages.old.items result self.new messages.new.items }
+        ensures { GivesMessage self.old message.now messages.old.items result self.new
+            messages.new.items }
     {
         match Bytes::from_slice(alloc, message) {
             Ok(copy) => self.give(messages, copy),
@@ -256,7 +265,8 @@ impl Cutter {
     /// Gives a message after which no other has begun.
     fn give(&mut self, messages: &mut Vec<Bytes>, message: Bytes) -> Result<(), CutFault>
         requires { self.old.rest ≡ [] }
-        ensures { GivesMessage self.old message messages.old.items result self.new messages.new.items }
+        ensures { GivesMessage self.old message messages.old.items result self.new
+            messages.new.items }
     {
         self.advance(message.as_slice().len());
         if messages.push(message).is_err() {

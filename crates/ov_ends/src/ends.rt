@@ -1,4 +1,5 @@
-ghost use Rattle.std.specs.Prelude.{◌≡◌, ◌≤◌, ◌<◌, ◌++◌, ℕ, List, Bool, true, false, Option, length, take, IfSome, IfNone};
+ghost use Rattle.std.specs.Prelude.{◌≡◌, ◌≤◌, ◌<◌, ◌++◌, ℕ, List, Bool, true, false, Option};
+ghost use Rattle.std.specs.Prelude.{length, take, IfSome, IfNone};
 ghost use Rattle.std.specs.Io.KnownBytes.{IsAtEnd};
 ghost use Rattle.ov_ends.specs.Ends.{one_more, met_end, KeepsInput, GivesWritten};
 
@@ -20,12 +21,18 @@ pub trait Source {
     /// no byte is read, the input has ended.
     fn read(&mut self, piece: &mut [u8]) -> Option<usize>
         ensures within { IfSome result (λ n. n ≤ length piece.new) }
-        ensures trace { IfSome result (λ n. bytes_read self.new ≡ bytes_read self.old ++ take n piece.new) }
-        ensures input { KeepsInput (bytes_read self.old) (remaining self.old) (bytes_read self.new) (remaining self.new) }
-        ensures end { IfSome result (λ n. at_end self.new ≡ met_end n (length piece.new) (at_end self.old)) }
-        ensures all { IfSome result (λ n. n ≡ 0 → 0 < length piece.new → IsAtEnd (remaining self.new)) }
+        ensures trace { IfSome result (λ n. bytes_read self.new
+            ≡ bytes_read self.old ++ take n piece.new) }
+        ensures input { KeepsInput (bytes_read self.old) (remaining self.old) (bytes_read self.new)
+            (remaining self.new) }
+        ensures end { IfSome result (λ n. at_end self.new
+            ≡ met_end n (length piece.new) (at_end self.old)) }
+        ensures all { IfSome result (λ n. n ≡ 0 → 0 < length piece.new
+            → IsAtEnd (remaining self.new)) }
         ensures good { IfSome result (λ n. faults self.new ≡ faults self.old) }
-        ensures none { IfNone result ((bytes_read self.new ≡ bytes_read self.old) × (at_end self.new ≡ at_end self.old) × (faults self.new ≡ one_more (faults self.old))) };
+        ensures none { IfNone result ((bytes_read self.new ≡ bytes_read self.old)
+            × (at_end self.new ≡ at_end self.old)
+            × (faults self.new ≡ one_more (faults self.old))) };
 
     /// Whether the end of the input was met.
     fn ended(&self) -> bool
@@ -54,16 +61,20 @@ pub trait Sink {
     fn write(&mut self, bytes: &[u8]) -> Option<usize>
         ensures within { IfSome result (λ n. n ≤ length bytes.now) }
         ensures some { IfSome result (λ n. 0 < length bytes.now → 0 < n) }
-        ensures trace { IfSome result (λ n. bytes_written self.new ≡ bytes_written self.old ++ take n bytes.now) }
-        ensures given { GivesWritten (bytes_written self.old) (contents self.old) (bytes_written self.new) (contents self.new) }
+        ensures trace { IfSome result (λ n. bytes_written self.new
+            ≡ bytes_written self.old ++ take n bytes.now) }
+        ensures given { GivesWritten (bytes_written self.old) (contents self.old)
+            (bytes_written self.new) (contents self.new) }
         ensures held { is_flushed self.new ≡ false }
         ensures good { IfSome result (λ n. faults self.new ≡ faults self.old) }
-        ensures none { IfNone result ((bytes_written self.new ≡ bytes_written self.old) × (faults self.new ≡ one_more (faults self.old))) };
+        ensures none { IfNone result ((bytes_written self.new ≡ bytes_written self.old)
+            × (faults self.new ≡ one_more (faults self.old))) };
 
     /// Hands on what was written and is still held. False is an error.
     fn flush(&mut self) -> bool
         ensures trace { bytes_written self.new ≡ bytes_written self.old }
-        ensures given { GivesWritten (bytes_written self.old) (contents self.old) (bytes_written self.new) (contents self.new) }
+        ensures given { GivesWritten (bytes_written self.old) (contents self.old)
+            (bytes_written self.new) (contents self.new) }
         ensures flushed { is_flushed self.new ≡ result }
         ensures good { result ≡ true → faults self.new ≡ faults self.old }
         ensures bad { result ≡ false → faults self.new ≡ one_more (faults self.old) };

@@ -12,7 +12,7 @@ use Rattle.ov_specs.specs.operations.Errors.{DuplicateUuid, error_tree}
 use Rattle.ov_specs.specs.operations.Insert.{insert_result, is_taken}
 use Rattle.ov_specs.specs.operations.InsertedIds.{id_read}
 use Rattle.ov_specs.specs.operations.MatchingRows.{count_result}
-use Rattle.ov_specs.specs.operations.OpOutcome.{OpContext, Done, Fault, names_in}
+use Rattle.ov_specs.specs.operations.OpOutcome.{OpContext, Done, names_in}
 use Rattle.ov_specs.specs.operations.Operation.{outcome_of}
 use Rattle.ov_specs.specs.operations.Transaction.{Completes, transaction}
 use Rattle.ov_specs.specs.rows.Database.{Database}

@@ -3,14 +3,14 @@ use Rattle.std.proofs.Common.{◌≡◌, ℕ, List, [], ◌∷◌, Bool, true, f
 use Rattle.std.specs.Fmt.{digits}
 use Rattle.std.specs.FinMap.{empty, get, remove, entries, same_map, get-empty, get-insert, get-remove}
 use Rattle.std.specs.Ordering.{eq_by_cmp}
-use Rattle.serde_json.specs.Data.{Data, number, unsigned, string, array, object, no_members, member, Items, no_items, item}
+use Rattle.serde_json.specs.Data.{number, unsigned, string, array, object, no_members, member, Items, no_items, item}
 use Rattle.serde_json.proofs.OnLiterals.{serde_json_on_literals}
 use Rattle.ov_specs.specs.integrity.Committed.{committed}
 use Rattle.ov_specs.specs.machine.Machine.{Event, Open, Take, Tick, Outcome, Committed, Exhausted, Failed, NoMemory, Attempt, Entry, opening}
 use Rattle.ov_specs.specs.operations.MatchingRows.{count_result}
 use Rattle.ov_specs.specs.operations.OpOutcome.{empty_result}
 use Rattle.ov_specs.specs.operations.Transaction.{Completes, Waits, transaction}
-use Rattle.ov_specs.specs.rows.Database.{Row, Database, same_database}
+use Rattle.ov_specs.specs.rows.Database.{Database, same_database}
 use Rattle.ov_specs.specs.rows.Lines.{LineKey, line_cmp}
 use Rattle.ov_specs.specs.values.Uuid.{Uuid}
 use Rattle.ov_specs.specs.wire.Message.{Call}

@@ -144,7 +144,7 @@ text-s1 : is_utf8 (codes "s1") ≡ true
 unfolding is_utf8 chars serde_json_on_literals
 text-s1 = refl
 
-s1-given : (names : uuid.Names) → given_values may_be_new names switch (member (codes "load") (number (unsigned 4)) (member (codes "name") (string (codes "s1")) no_members)) empty ≡ Ok s1_columns
+s1-given : (names : uuid.Names) → given_values may_be_new names switch (member (codes "load") (number (unsigned 4)) (member (codes "name") (string (codes "s1")) no_members)) ≡ Ok s1_columns
 s1-given names =
     rw (load_column, len-one (Integer (pos 4)), entries-one (Integer (pos 4)))
     (rw (name_column, text-s1, len-one (Text (codes "s1")), entries-one (Text (codes "s1"))) refl)
@@ -157,7 +157,7 @@ load-given =
 pub name-given : get s1_columns (codes "name") ≡ Some (one (Text (codes "s1")))
 name-given = get-insert name_cmp_total (insert empty (codes "load") (one (Integer (pos 4)))) (codes "name") (one (Text (codes "s1"))) (codes "name")
 
-s1-complete : with_defaults (entries columns) s1_columns ≡ Ok s1_columns
+s1-complete : with_defaults switch s1_columns ≡ Ok s1_columns
 s1-complete = rw entries-columns (rw (load-given, name-given) refl)
 
 pub s1-new : (names : uuid.Names) → new_row names switch (member (codes "load") (number (unsigned 4)) (member (codes "name") (string (codes "s1")) no_members)) ≡ Ok s1_columns

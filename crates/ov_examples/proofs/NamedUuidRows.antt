@@ -80,7 +80,7 @@ unfolding serde_json_on_literals
 undeclared_stands_for_nothing = refl
 
 -- a refused insert has drawn too
-pub refused_insert_draws : option_and_then (λ ds. id_at (inserted_ids (numbered 2 ∷ numbered 3 ∷ []) ds) ds 1) (operations (codes "[{\"op\":\"insert\"},{\"op\":\"insert\"}]")) ≡ Some (numbered 3)
+pub refused_insert_draws : option_map (λ ds. id_at (inserted_ids (numbered 2 ∷ numbered 3 ∷ []) ds) ds 1) (operations (codes "[{\"op\":\"insert\"},{\"op\":\"insert\"}]")) ≡ Some (numbered 3)
 unfolding serde_json_on_literals
 refused_insert_draws = refl
 

@@ -135,9 +135,9 @@ pub insert_one : done_on rows (codes "{\"op\":\"insert\",\"row\":{\"load\":5},\"
 unfolding serde_json_on_literals
 insert_one =
     rw (table_is (codes "Switch")) (rw (on_switch (codes "load")) (rw (len-one (Integer (pos 5)), entries-one (Integer (pos 5))) (rw entries-switch (rw (get-insert name_cmp_total empty (codes "load") (one (Integer (pos 5))) (codes "load"))
-    (rw (get-insert name_cmp_total empty (codes "load") (one (Integer (pos 5))) (codes "name"), get-empty name_cmp (codes "name")) (rw (len-one (Text []), entries-one (Text []))
-    (rw (get-insert name_cmp_total (insert empty (codes "load") (one (Integer (pos 5)))) (codes "name") (one (Text [])) (codes "ports"))
-    (rw (get-insert name_cmp_total empty (codes "load") (one (Integer (pos 5))) (codes "ports"), get-empty name_cmp (codes "ports")) (rw (len-none, entries-none) (rw no_row_2 refl))))))))))
+    (rw (get-insert name_cmp_total empty (codes "load") (one (Integer (pos 5))) (codes "name"), get-empty name_cmp (codes "name"))
+    (rw (get-insert name_cmp_total empty (codes "load") (one (Integer (pos 5))) (codes "ports"), get-empty name_cmp (codes "ports"))
+    (rw (len-one (Text []), entries-one (Text [])) (rw (len-none, entries-none) (rw no_row_2 refl)))))))))
 
 pub insert_over_a_row : done_on (insert empty (key 2) (row columns_1)) (codes "{\"op\":\"insert\",\"row\":{\"load\":5,\"name\":\"s1\",\"ports\":[\"set\",[]]},\"table\":\"Switch\"}") ≡ Some (Fault DuplicateUuid)
 unfolding serde_json_on_literals

@@ -102,12 +102,12 @@ module _ (names : Names) (port : List ℕ) (is : names (codes "p") ≡ Some port
   abbrev ports : Datum
   ports = one (Uuid port)
 
-  ports-given : given_values may_be_new names (table_of switch_columns) (switch_with (two (string (codes "named-uuid")) (string (codes "p")))) empty ≡ Ok (given ports)
+  ports-given : given_values may_be_new names (table_of switch_columns) (switch_with (two (string (codes "named-uuid")) (string (codes "p")))) ≡ Ok (given ports)
   ports-given =
       rw (on_switch (codes "load"), on_switch (codes "name"), on_switch (codes "ports")) (rw (len-one (Integer (pos 5)), entries-one (Integer (pos 5)))
       (rw (text_s1, len-one (Text (codes "s1")), entries-one (Text (codes "s1"))) (rw (is, len-one (Uuid port), entries-one (Uuid port)) refl)))
 
-  ports-complete : with_defaults (entries switch_columns) (given ports) ≡ Ok (given ports)
+  ports-complete : with_defaults (table_of switch_columns) (given ports) ≡ Ok (given ports)
   ports-complete = rw entries-switch (rw (given_load ports, given_name ports, given_ports ports) refl)
 
   new_ports : new_row names (table_of switch_columns) (switch_with (two (string (codes "named-uuid")) (string (codes "p")))) ≡ Ok (given ports)
@@ -172,11 +172,11 @@ port_name = get-insert name_cmp_total _ (codes "tag") (one (Integer (pos 5))) (c
 port_tag : get port_columns (codes "tag") ≡ Some (one (Integer (pos 5)))
 port_tag = get-insert name_cmp_total _ (codes "tag") (one (Integer (pos 5))) (codes "tag")
 
-port-given : (names : Names) → given_values may_be_new names (table_of net_rows.port_columns) port_members empty ≡ Ok port_columns
+port-given : (names : Names) → given_values may_be_new names (table_of net_rows.port_columns) port_members ≡ Ok port_columns
 port-given names =
     rw (on_port (codes "name"), on_port (codes "tag")) (rw (text_s1, len-one (Text (codes "s1")), entries-one (Text (codes "s1"))) (rw (len-one (Integer (pos 5)), entries-one (Integer (pos 5))) refl))
 
-port-complete : with_defaults (entries net_rows.port_columns) port_columns ≡ Ok port_columns
+port-complete : with_defaults (table_of net_rows.port_columns) port_columns ≡ Ok port_columns
 port-complete = rw entries-port (rw (port_name, port_tag) refl)
 
 new_port : (names : Names) → new_row names (table_of net_rows.port_columns) port_members ≡ Ok port_columns

@@ -1,5 +1,5 @@
 -- The identifiers of inserts, operation by operation.
-use Rattle.std.proofs.Common.{◌≡◌, ◌<◌, ◌+◌, ◌++◌, ℕ, List, [], ◌∷◌, length, get_or, drop, true, false, if◌then◌else◌, refl, sym, ap, ◌∙◌, append_assoc}
+use Rattle.std.proofs.Common.{◌≡◌, ◌<◌, ◌+◌, ◌++◌, ℕ, List, [], ◌∷◌, length, get_or, drop, map, filter, zip, true, false, if◌then◌else◌, refl, sym, ap, ◌∙◌, append_assoc}
 use Rattle.std.specs.Prelude.{unwrap_or}
 use Rattle.std.proofs.lemmas.List.{drop_more}
 use Rattle.serde_json.specs.Data.{Data, Items, no_items, item}
@@ -8,18 +8,28 @@ use Rattle.serde_json.specs.declared.value.Value.{Value}
 use Rattle.ov_specs.specs.operations.Draws.{is_insert}
 use Rattle.ov_specs.specs.operations.InsertedIds.{chosen_id, inserted_ids}
 use Rattle.ov_specs.specs.values.Uuid.{Uuid}
+use Rattle.ov_specs.specs.wire.Tree.{item_list}
+
+-- the identifiers of these inserts
+abbrev ids_of : List Data → List Uuid → List Uuid
+ids_of inserts draws = map (λ p. unwrap_or (chosen_id p.0) p.1) (zip inserts draws)
+
+abbrev inserts_in : Items → List Data
+inserts_in operations = filter is_insert (item_list operations)
 
 -- without a draw there is none
 pub none_left : (operations : Items) → inserted_ids [] operations ≡ []
-none_left no_items = refl
-none_left (item d operations) = refl
+none_left operations = by (inserts_in operations)
+  where
+    by : (inserts : List Data) → ids_of inserts [] ≡ []
+    by [] = refl
+    by (d ∷ inserts) = refl
 
 passed : (draws : List Uuid) (d : Data) (rest : Items) → is_insert d ≡ false → inserted_ids draws (item d rest) ≡ inserted_ids draws rest
-passed [] d rest is = sym (none_left rest)
-passed (draw ∷ draws) d rest is = ap (λ b. if b then unwrap_or (chosen_id d) draw ∷ inserted_ids draws rest else inserted_ids (draw ∷ draws) rest) is
+passed draws d rest is = ap (λ b. ids_of (if b then d ∷ inserts_in rest else inserts_in rest) draws) is
 
 taken : (draw : Uuid) (draws : List Uuid) (d : Data) (rest : Items) → is_insert d ≡ true → inserted_ids (draw ∷ draws) (item d rest) ≡ unwrap_or (chosen_id d) draw ∷ inserted_ids draws rest
-taken draw draws d rest is = ap (λ b. if b then unwrap_or (chosen_id d) draw ∷ inserted_ids draws rest else inserted_ids (draw ∷ draws) rest) is
+taken draw draws d rest is = ap (λ b. ids_of (if b then d ∷ inserts_in rest else inserts_in rest) (draw ∷ draws)) is
 
 module _ (operations : List Value) (i : ℕ) (d : Value) (within : i < length operations) (at : d ≡ get_or operations i d) (all ids : List Uuid) where
   next : items_view (drop i operations) ≡ item (view d) (items_view (drop (i + 1) operations))

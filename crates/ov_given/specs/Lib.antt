@@ -1,4 +1,3 @@
 pub mod Naming
 pub mod Rows
-pub mod Mutations
 pub mod Waiting

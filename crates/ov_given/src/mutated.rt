@@ -1,10 +1,9 @@
 ghost use Rattle.std.specs.Prelude.{◌≡◌};
-ghost use Rattle.std.specs.Option.{option_copied};
 ghost use Rattle.serde_json.specs.View.{view, items_view};
 ghost use Rattle.ov_specs.specs.operations.Mutate as mutate;
-ghost use Rattle.ov_specs.specs.operations.Mutators.{mutation_read};
+ghost use Rattle.ov_specs.specs.operations.Mutators.{mutation_error, mutation_read};
+ghost use Rattle.ov_specs.specs.values.Results.{result_map_err};
 ghost use Rattle.ov_projection.specs.Errors.{IsOpResult};
-ghost use Rattle.ov_given.specs.Mutations.{mutation_result};
 
 use ov_atoms::{Datum, Names};
 use ov_mutate::{MutateFault, Mutation, MutationFault};
@@ -21,7 +20,10 @@ fn mutation_of<'a, N: Names>(
     tree: &Value,
     names: &N,
 ) -> Result<Mutation<'a>, OpFault>
-    ensures { IsOpResult (λ m. m) (mutation_result (mutation_read (N.names names.now) table.now (view tree.now))) result }
+    ensures { IsOpResult (λ m. m)
+        (result_map_err mutation_error
+        (mutation_read (N.names names.now) table.now (view tree.now)))
+        result }
 {
     match Mutation::read(alloc, table, tree, names) {
         Ok(mutation) => Ok(mutation),
@@ -41,7 +43,8 @@ pub fn mutations_of<'a, N: Names>(
     items: &[Value],
     names: &N,
 ) -> Result<Vec<Mutation<'a>>, OpFault>
-    ensures { IsOpResult (λ v. v.items) (mutate.mutations_read (N.names names.now) table.now (items_view items.now)) result }
+    ensures { IsOpResult (λ v. v.items)
+        (mutate.mutations_read (N.names names.now) table.now (items_view items.now)) result }
 {
     let mut mutations = Vec::new(alloc);
     for item in items {
@@ -53,23 +56,30 @@ pub fn mutations_of<'a, N: Names>(
     Ok(mutations)
 }
 
-/// What a mutation makes of the value of its column. A row has a value for each column that can be mutated.
-fn mutated_value(
-    alloc: Global,
-    mutation: &Mutation<'_>,
-    datum: Option<&Datum>,
-) -> Result<Datum, OpFault>
-    ensures { IsOpResult (λ d. d) (mutate.mutated_value mutation.now (option_copied datum.entry)) result }
+/// What a mutation makes of the value of its column.
+fn mutated_value(alloc: Global, mutation: &Mutation<'_>, datum: &Datum) -> Result<Datum, OpFault>
+    ensures { IsOpResult (λ d. d) (mutate.mutated_value mutation.now datum.now) result }
 {
-    let Some(datum) = datum else {
-        return Err(OpFault::Refused(OpError::Constraint));
-    };
     match mutation.mutate(alloc, datum) {
         Ok(mutated) => Ok(mutated),
         Err(MutateFault::Domain) => Err(OpFault::Refused(OpError::Domain)),
         Err(MutateFault::Range) => Err(OpFault::Refused(OpError::Range)),
         Err(MutateFault::Constraint) => Err(OpFault::Refused(OpError::Constraint)),
         Err(MutateFault::Memory) => Err(OpFault::Memory),
+    }
+}
+
+/// What a mutation makes of its column of a row. A row has a value for each column that can be mutated.
+fn column_mutated(
+    alloc: Global,
+    mutation: &Mutation<'_>,
+    columns: &Columns,
+) -> Result<Datum, OpFault>
+    ensures { IsOpResult (λ d. d) (mutate.column_mutated mutation.now columns.now) result }
+{
+    match columns.get(mutation.column()) {
+        Some(datum) => mutated_value(alloc, mutation, datum),
+        None => Err(OpFault::Refused(OpError::Constraint)),
     }
 }
 
@@ -84,7 +94,7 @@ pub fn mutated_columns(
 {
     let mut mutated = columns.copy(alloc)?;
     for mutation in mutations {
-        let datum = mutated_value(alloc, mutation, mutated.get(mutation.column()))?;
+        let datum = column_mutated(alloc, mutation, &mutated)?;
         mutated = mutated.with_value(alloc, mutation.column(), datum)?;
     }
     Ok(mutated)

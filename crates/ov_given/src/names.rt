@@ -1,4 +1,5 @@
-ghost use Rattle.std.specs.Prelude.{◌≡◌, ℕ, List, IfOk, OnOk, Option, Some, None, unwrap_or, if◌then◌else◌, option_map};
+ghost use Rattle.std.specs.Prelude.{◌≡◌, ℕ, List, IfOk, OnOk, Option, Some, None, unwrap_or};
+ghost use Rattle.std.specs.Prelude.{if◌then◌else◌, option_map};
 ghost use Rattle.std.specs.List.{slice_get};
 ghost use Rattle.std.specs.Option.{option_copied};
 ghost use Rattle.std.specs.Str.{bytes_eq};
@@ -6,7 +7,8 @@ ghost use Rattle.serde_json.specs.View.{view, items_view};
 ghost use Rattle.ov_specs.specs.operations.Errors.{DuplicateName};
 ghost use Rattle.ov_specs.specs.operations.Insert.{name_fault, uuid_fault};
 ghost use Rattle.ov_specs.specs.operations.InsertedIds.{chosen_id, inserted_ids};
-ghost use Rattle.ov_specs.specs.operations.NamedUuids.{declares, place_declared, is_declared_before, inserts_before, id_at};
+ghost use Rattle.ov_specs.specs.operations.NamedUuids.{declares, place_declared};
+ghost use Rattle.ov_specs.specs.operations.NamedUuids.{is_declared_before, inserts_before, id_at};
 ghost use Rattle.ov_specs.specs.operations.OpOutcome.{OpContext};
 ghost use Rattle.ov_specs.specs.schema.Schema.{is_some_and};
 ghost use Rattle.ov_given.specs.Naming.{ArePlaces, first_of, place_at};
@@ -60,7 +62,8 @@ impl<'a> NamedRows<'a> {
         draws: &[Uuid],
         operations: &'a Trees,
     ) -> Result<NamedRows<'a>, AllocError>
-        ensures { IfOk result (λ rows. rows ≡ record { ids = inserted_ids draws.now operations.now; operations = operations.now }) }
+        ensures { IfOk result (λ rows. rows
+            ≡ record { ids = inserted_ids draws.now operations.now; operations = operations.now }) }
     {
         let items = operations.as_slice();
         let (counts, inserts) = count_inserts(alloc, items)?;
@@ -73,15 +76,15 @@ impl<'a> NamedRows<'a> {
         })
     }
 
-    /// The identifier of the insert at this place; the first operation is at 0.
-    pub fn id_at(&self, place: usize) -> Option<Uuid>
+    /// The identifier of the insert at this place; the first operation is at 0. The nil UUID if no insert is there or later.
+    pub fn id_at(&self, place: usize) -> Uuid
         ensures { result ≡ id_at self.now.ids self.now.operations place }
     {
         let before = match self.counts.get(place) {
             Some(before) => *before,
             None => self.inserts,
         };
-        self.ids.get(before).copied()
+        self.ids.get(before).copied().unwrap_or(Uuid::nil())
     }
 
     /// Whether an operation before this place declares the name (RFC 7047, 5.2.1).
@@ -109,7 +112,7 @@ impl<'a> Names for NamedRows<'a> {
 
     fn uuid_of(&self, name: &str) -> Option<Uuid> {
         match self.place_of(name) {
-            Some(place) => self.id_at(place),
+            Some(place) => Some(self.id_at(place)),
             None => None,
         }
     }
@@ -118,7 +121,8 @@ impl<'a> Names for NamedRows<'a> {
 /// What is wrong with the `uuid`, which may be left out, of an insert: it is neither a text of 36 characters nor
 /// `["uuid",text]` (RFC 7047, 5.1, `<uuid>`).
 pub fn uuid_fault(tree: Option<&Value>) -> Option<OpError>
-    ensures { option_map error_view result ≡ uuid_fault (option_map view (option_copied tree.entry)) }
+    ensures { option_map error_view result
+        ≡ uuid_fault (option_map view (option_copied tree.entry)) }
 {
     match read_uuid(tree?) {
         Some(_) => None,
@@ -129,7 +133,9 @@ pub fn uuid_fault(tree: Option<&Value>) -> Option<OpError>
 /// What is wrong with the `uuid-name`, which may be left out, of the insert at this place: it is not an `<id>`, or an
 /// operation before it declares the name (RFC 7047, 5.2.1).
 pub fn name_fault(rows: &NamedRows<'_>, place: usize, tree: Option<&Value>) -> Option<OpError>
-    ensures { (c : OpContext) → c.operations ≡ rows.now.operations → option_map error_view result ≡ name_fault c place (option_map view (option_copied tree.entry)) }
+    ensures { (c : OpContext) → c.operations ≡ rows.now.operations
+        → option_map error_view result
+        ≡ name_fault c place (option_map view (option_copied tree.entry)) }
 {
     let name = match tree {
         Some(tree) => tree.as_str(),
@@ -143,7 +149,9 @@ pub fn name_fault(rows: &NamedRows<'_>, place: usize, tree: Option<&Value>) -> O
 
 /// The error if an operation before this place declares the name.
 fn name_twice(rows: &NamedRows<'_>, place: usize, name: &str) -> Option<OpError>
-    ensures { option_map error_view result ≡ (if is_declared_before name.now place rows.now.operations then Some DuplicateName else None) }
+    ensures { option_map error_view result
+        ≡ (if is_declared_before name.now place rows.now.operations then Some DuplicateName else
+        None) }
 {
     if rows.is_declared_before(name, place) {
         Some(OpError::DuplicateName)
@@ -183,7 +191,8 @@ fn inserted_ids(
 
 /// The name that an operation declares.
 fn name_declared(operation: &Value) -> Option<&str>
-    ensures { (name : List ℕ) → declares name (view operation.now) ≡ is_some_and (bytes_eq name) (option_copied result) }
+    ensures { (name : List ℕ) → declares name (view operation.now)
+        ≡ is_some_and (bytes_eq name) (option_copied result) }
 {
     if !is_insert(operation) {
         return None;
@@ -200,7 +209,9 @@ fn keep_place<'a>(
     operation: &'a Value,
     place: usize,
 ) -> Result<(), AllocError>
-    ensures { OnOk result ((name : List ℕ) → place_at places.new name ≡ first_of (place_at places.old name) (if declares name (view operation.now) then Some place else None)) }
+    ensures { OnOk result ((name : List ℕ) → place_at places.new name
+        ≡ first_of (place_at places.old name)
+        (if declares name (view operation.now) then Some place else None)) }
 {
     let Some(name) = name_declared(operation) else {
         return Ok(());
@@ -227,7 +238,8 @@ fn places_of<'a>(
 
 /// How many inserts stand before each operation, and how many there are.
 fn count_inserts(alloc: Global, operations: &[Value]) -> Result<(Vec<usize>, usize), AllocError>
-    ensures { IfOk result (λ c. (place : ℕ) → unwrap_or (slice_get c.0.items place) c.1 ≡ inserts_before place (items_view operations.now)) }
+    ensures { IfOk result (λ c. (place : ℕ) → unwrap_or (slice_get c.0.items place) c.1
+        ≡ inserts_before place (items_view operations.now)) }
 {
     let mut counts = Vec::with_capacity(alloc, operations.len())?;
     let mut inserts: usize = 0;

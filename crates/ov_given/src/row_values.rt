@@ -1,6 +1,5 @@
 ghost use Rattle.std.specs.Prelude.{◌≡◌, IfOk};
 ghost use Rattle.std.specs.Option.{option_copied};
-ghost use Rattle.std.specs.FinMap.{empty, entries};
 ghost use Rattle.serde_json.specs.View.{view, members_view};
 ghost use Rattle.ov_specs.specs.operations.GivenRow as rows;
 ghost use Rattle.ov_specs.specs.operations.Insert as insert;
@@ -55,7 +54,10 @@ fn value_read<N: Names>(
     tree: &Value,
     names: &N,
 ) -> Result<Datum, OpFault>
-    ensures { IsOpResult (λ d. d) (rows.fitting_reading column.now (reads (N.names names.now) (kinds_of column.now.type_of) (view tree.now))) result }
+    ensures { IsOpResult (λ d. d)
+        (rows.fitting_reading column.now
+        (reads (N.names names.now) (kinds_of column.now.type_of) (view tree.now)))
+        result }
 {
     match read_datum(alloc, tree, column.kinds(), names) {
         Ok(datum) => fitting(column, datum),
@@ -74,7 +76,10 @@ fn given_value<N: Names>(
     tree: &Value,
     names: &N,
 ) -> Result<Datum, OpFault>
-    ensures { IsOpResult (λ d. d) (rows.given_value (may_be row) (N.names names.now) name.now (option_copied column.entry) (view tree.now)) result }
+    ensures { IsOpResult (λ d. d)
+        (rows.given_value (may_be row) (N.names names.now) name.now (option_copied column.entry)
+        (view tree.now))
+        result }
 {
     let Some(column) = column else {
         return Err(OpFault::Refused(OpError::UnknownColumn));
@@ -95,7 +100,10 @@ pub fn given_values<N: Names>(
     members: &Map<String, Value>,
     names: &N,
 ) -> Result<NamedValues, OpFault>
-    ensures { IsOpResult (λ v. v) (rows.given_values (may_be row) (N.names names.now) table.now (members_view members.now.entries) empty) result }
+    ensures { IsOpResult (λ v. v)
+        (rows.given_values (may_be row) (N.names names.now) table.now
+        (members_view members.now.entries))
+        result }
 {
     let mut values = NamedValues::new(alloc);
     for (name, tree) in members.iter() {
@@ -115,7 +123,7 @@ fn default_given(alloc: Global, column: &Column) -> Result<Datum, OpFault>
 
 /// The values, with the defaults of those that were not given.
 fn with_defaults(alloc: Global, table: &Table, values: NamedValues) -> Result<NamedValues, OpFault>
-    ensures { IsOpResult (λ v. v) (insert.with_defaults (entries table.now.columns) values) result }
+    ensures { IsOpResult (λ v. v) (insert.with_defaults table.now values) result }
 {
     let mut values = values;
     for (name, column) in table.columns() {
@@ -134,7 +142,8 @@ fn new_values<N: Names>(
     members: &Map<String, Value>,
     names: &N,
 ) -> Result<NamedValues, OpFault>
-    ensures { IsOpResult (λ v. v) (insert.new_row (N.names names.now) table.now (members_view members.now.entries)) result }
+    ensures { IsOpResult (λ v. v)
+        (insert.new_row (N.names names.now) table.now (members_view members.now.entries)) result }
 {
     let values = given_values(alloc, GivenRow::New, table, members, names)?;
     with_defaults(alloc, table, values)
@@ -148,7 +157,8 @@ pub fn new_row<N: Names>(
     members: &Map<String, Value>,
     names: &N,
 ) -> Result<Columns, OpFault>
-    ensures { IsOpResult (λ c. c) (insert.new_row (N.names names.now) table.now (members_view members.now.entries)) result }
+    ensures { IsOpResult (λ c. c)
+        (insert.new_row (N.names names.now) table.now (members_view members.now.entries)) result }
 {
     let values = new_values(alloc, table, members, names)?;
     Ok(Columns::sharing(alloc, table.names_of_row(), values)?)

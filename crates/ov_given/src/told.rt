@@ -1,7 +1,7 @@
 ghost use Rattle.std.specs.Prelude.{◌≡◌, ℕ, List, IfOk, map, option_map, option_and_then};
-ghost use Rattle.std.specs.FinMap.{empty, get};
+ghost use Rattle.std.specs.FinMap.{get};
 ghost use Rattle.std.specs.Option.{option_copied};
-ghost use Rattle.serde_json.specs.Find.{as_number, as_object};
+ghost use Rattle.serde_json.specs.Find.{as_number};
 ghost use Rattle.serde_json.specs.View.{view, items_view, members_view};
 ghost use Rattle.ov_specs.specs.operations.Wait as wait;
 ghost use Rattle.ov_specs.specs.schema.SchemaTypes.{kinds_of};
@@ -18,7 +18,8 @@ use std::alloc::{AllocError, Global};
 
 /// The number of a tree, if it is at least 0.
 fn natural_of(tree: &Value) -> Option<u64>
-    ensures { result ≡ option_and_then wait.natural (option_and_then integer_read (as_number (view tree.now))) }
+    ensures { result
+        ≡ option_and_then wait.natural (option_and_then integer_read (as_number (view tree.now))) }
 {
     match tree.as_i64() {
         Some(number) => u64::try_from(number).ok(),
@@ -28,7 +29,8 @@ fn natural_of(tree: &Value) -> Option<u64>
 
 /// The `timeout` of a `wait` in milliseconds, an integer that is at least 0; `None` if it is left out (RFC 7047, 5.2.6).
 pub fn timeout_of(tree: Option<&Value>) -> Result<Option<u64>, OpFault>
-    ensures { IsOpResult (λ o. o) (wait.timeout_read (option_map view (option_copied tree.entry))) result }
+    ensures { IsOpResult (λ o. o) (wait.timeout_read (option_map view (option_copied tree.entry)))
+        result }
 {
     let Some(tree) = tree else {
         return Ok(None);
@@ -48,7 +50,10 @@ fn told_value<N: Names>(
     tree: &Value,
     names: &N,
 ) -> Result<Datum, OpFault>
-    ensures { IsOpResult (λ d. d) (wait.told_value (N.names names.now) compared.now name.now (option_copied column.entry) (view tree.now)) result }
+    ensures { IsOpResult (λ d. d)
+        (wait.told_value (N.names names.now) compared.now name.now (option_copied column.entry)
+        (view tree.now))
+        result }
 {
     let Some(column) = column else {
         return Err(OpFault::Refused(OpError::Syntax));
@@ -72,7 +77,10 @@ fn told_values<N: Names>(
     members: &Map<String, Value>,
     names: &N,
 ) -> Result<NamedValues, OpFault>
-    ensures { IsOpResult (λ v. v) (wait.told_values (N.names names.now) table.now compared.now (members_view members.now.entries) empty) result }
+    ensures { IsOpResult (λ v. v)
+        (wait.told_values (N.names names.now) table.now compared.now
+        (members_view members.now.entries))
+        result }
 {
     let mut values = NamedValues::new(alloc);
     for (name, tree) in members.iter() {
@@ -134,7 +142,8 @@ fn told_row<N: Names>(
     tree: &Value,
     names: &N,
 ) -> Result<NamedValues, OpFault>
-    ensures { IsOpResult (λ v. v) (wait.told_row (N.names names.now) table.now compared.now (as_object (view tree.now))) result }
+    ensures { IsOpResult (λ v. v)
+        (wait.told_row (N.names names.now) table.now compared.now (view tree.now)) result }
 {
     match tree.as_object() {
         Some(members) => told_values(alloc, table, compared, members, names),
@@ -151,7 +160,8 @@ pub fn told_rows<N: Names>(
     items: &[Value],
     names: &N,
 ) -> Result<Vec<ShownRow>, OpFault>
-    ensures { IsOpResult (λ v. v.items) (wait.told_rows (N.names names.now) table.now compared.now (items_view items.now)) result }
+    ensures { IsOpResult (λ v. v.items)
+        (wait.told_rows (N.names names.now) table.now compared.now (items_view items.now)) result }
 {
     let mut rows = Vec::new(alloc);
     for item in items {

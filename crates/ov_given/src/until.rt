@@ -34,7 +34,8 @@ pub fn until_of(word: &str) -> Option<Until>
 
 /// All these rows, as a set to look them up in.
 fn rows_known(alloc: Global, rows: &[ShownRow]) -> Result<BTreeSet<&ShownRow>, AllocError>
-    ensures { IfOk result (λ known. (row : List (List ℕ × value.Datum)) → any_at row known.keys ≡ list_any (λ other. same_columns other row) rows.now) }
+    ensures { IfOk result (λ known. (row : List (List ℕ × value.Datum)) → any_at row known.keys
+        ≡ list_any (λ other. same_columns other row) rows.now) }
 {
     let mut known = BTreeSet::new(alloc);
     for row in rows {

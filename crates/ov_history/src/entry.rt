@@ -1,5 +1,7 @@
-ghost use Rattle.std.specs.Prelude.{◌≡◌, ◌++◌, ◌+◌, ◌<◌, ◌≤◌, [], map, length, vec_len, vec_capacity};
-ghost use Rattle.ov_history.specs.Entries.{attempt_view, event_view, entry_view, listed_by, is_closing, is_kept};
+ghost use Rattle.std.specs.Prelude.{◌≡◌, ◌++◌, ◌+◌, ◌<◌, ◌≤◌, [], map, length, vec_len};
+ghost use Rattle.std.specs.Prelude.{vec_capacity};
+ghost use Rattle.ov_history.specs.Entries.{attempt_view, event_view, entry_view, listed_by};
+ghost use Rattle.ov_history.specs.Entries.{is_closing, is_kept};
 
 use crate::event::{Attempt, Choice, Entry, Event, Outcome};
 use ov_rpc::MessageText;
@@ -8,7 +10,12 @@ use uuid::Uuid;
 
 /// An entry for which only its moment was chosen. Allocates nothing.
 pub fn entry_without_choice(alloc: Global, moment: u64, event: Event<MessageText>) -> Entry
-    ensures { entry_view result ≡ record { event = event_view event; choice = record { moment = moment; draws = []; outcomes = [] } } }
+    ensures { entry_view result
+        ≡ record {
+          event = event_view event;
+          choice = record
+              { moment = moment; draws = []; outcomes = [] };
+        } }
 {
     entry_with_choice(alloc, moment, event, Vec::new(alloc), Vec::new(alloc))
 }
@@ -22,7 +29,12 @@ pub fn entry_with_choice(
     draws: Vec<Uuid>,
     attempts: Vec<Attempt>,
 ) -> Entry
-    ensures { entry_view result ≡ record { event = event_view event; choice = record { moment = moment; draws = draws.items; outcomes = map attempt_view attempts.items } } }
+    ensures { entry_view result
+        ≡ record {
+          event = event_view event;
+          choice = record
+              { moment = moment; draws = draws.items; outcomes = map attempt_view attempts.items };
+        } }
 {
     Entry {
         event,

@@ -20,7 +20,8 @@ fn indexes_of(
     schema: &Schema,
     changes: &BTreeMap<RowKey, Option<Row>>,
 ) -> Result<Indexes, AllocError>
-    ensures indexes { IfOk result (λ indexes. indexes ≡ with_changes schema.now changes.now.entries empty) }
+    ensures indexes { IfOk result (λ indexes. indexes
+        ≡ with_changes schema.now changes.now.entries empty) }
     ensures ascend { OnOk result (T (is_sorted line_cmp changes.now.entries)) }
 {
     let mut indexes = Indexes::new(alloc);
@@ -40,7 +41,8 @@ fn is_changed(
     id: Uuid,
 ) -> Result<bool, AllocError>
     requires ascend { T (is_sorted line_cmp changes.now.entries) }
-    ensures { IfOk result (λ is. is ≡ contains_key (from_sorted {R = line_cmp} changes.now.entries) (table.now, id)) }
+    ensures { IfOk result (λ is. is
+        ≡ contains_key (from_sorted {R = line_cmp} changes.now.entries) (table.now, id)) }
 {
     let key = RowKey::new(alloc, table, id)?;
     Ok(changes.contains_key(&key))
@@ -54,7 +56,11 @@ fn is_any_unchanged(
     ids: &[Uuid],
 ) -> Result<bool, AllocError>
     requires ascend { T (is_sorted line_cmp changes.now.entries) }
-    ensures { IfOk result (λ is. is ≡ list_any (λ id. not (contains_key (from_sorted {R = line_cmp} changes.now.entries) (table.now, id))) ids.now) }
+    ensures { IfOk result (λ is. is
+        ≡ list_any
+        (λ id. not
+        (contains_key (from_sorted {R = line_cmp} changes.now.entries) (table.now, id)))
+        ids.now) }
 {
     for id in ids {
         if !is_changed(alloc, changes, table, *id)? {
@@ -89,7 +95,8 @@ fn is_shared(
     ids: &IdSet,
 ) -> Result<bool, AllocError>
     requires ascend { T (is_sorted line_cmp changes.now.entries) }
-    ensures { IfOk result (λ is. is ≡ is_shared indexes.now changes.now.entries (key.now, ids.now)) }
+    ensures { IfOk result (λ is. is
+        ≡ is_shared indexes.now changes.now.entries (key.now, ids.now)) }
 {
     Ok(1 < ids.len() || has_unchanged(alloc, indexes, changes, key)?)
 }

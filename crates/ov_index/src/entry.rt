@@ -1,6 +1,7 @@
 ghost use Rattle.std.specs.Prelude.{◌≡◌, option_copied, IfOk};
 ghost use Rattle.std.specs.FinMap.{get};
-ghost use Rattle.ov_index.specs.Collecting.{has_entry, is_entry, entries_from, entries_in, entries_of_row};
+ghost use Rattle.ov_index.specs.Collecting.{has_entry, is_entry, entries_from, entries_in};
+ghost use Rattle.ov_index.specs.Collecting.{entries_of_row};
 
 use crate::key::IndexKey;
 use ov_rows::{Columns, Row, RowKey};
@@ -66,7 +67,8 @@ fn entries_in(
     key: &RowKey,
     columns: &Columns,
 ) -> Result<Vec<IndexEntry>, AllocError>
-    ensures { IfOk result (λ entries. entries.items ≡ entries_from 0 key.now.0 table.now.indexes key.now.1 columns.now) }
+    ensures { IfOk result (λ entries. entries.items
+        ≡ entries_from 0 key.now.0 table.now.indexes key.now.1 columns.now) }
 {
     let mut entries = Vec::with_capacity(alloc, table.indexes().len())?;
     for index in table.indexes() {
@@ -86,7 +88,8 @@ pub(crate) fn entries_of(
     key: &RowKey,
     columns: &Columns,
 ) -> Result<Vec<IndexEntry>, AllocError>
-    ensures { IfOk result (λ entries. entries.items ≡ entries_in (get schema.now.tables key.now.0) key.now columns.now) }
+    ensures { IfOk result (λ entries. entries.items
+        ≡ entries_in (get schema.now.tables key.now.0) key.now columns.now) }
 {
     match schema.table(key.table()) {
         Some(table) => entries_in(alloc, table, key, columns),
@@ -101,7 +104,8 @@ pub(crate) fn entries_of_row(
     key: &RowKey,
     row: Option<&Row>,
 ) -> Result<Vec<IndexEntry>, AllocError>
-    ensures { IfOk result (λ entries. entries.items ≡ entries_of_row schema.now key.now (option_copied row.entry)) }
+    ensures { IfOk result (λ entries. entries.items
+        ≡ entries_of_row schema.now key.now (option_copied row.entry)) }
 {
     match row {
         Some(row) => entries_of(alloc, schema, key, &row.columns),

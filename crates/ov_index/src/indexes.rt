@@ -1,7 +1,9 @@
 ghost use Rattle.std.specs.Prelude.{◌≡◌, not, option_copied, IfOk, OnOk, OnErr};
 ghost use Rattle.std.specs.FinMap.{empty, get, remove, entries};
-ghost use Rattle.ov_index.specs.Collecting.{entries_in, with_entry, with_entries, with_rows, has_indexes};
-ghost use Rattle.ov_index.specs.Indexing.{AreIndexesOf, is_indexed, lacking, has_none, without_entry, without_entries};
+ghost use Rattle.ov_index.specs.Collecting.{entries_in, with_entry, with_entries, with_rows};
+ghost use Rattle.ov_index.specs.Collecting.{has_indexes};
+ghost use Rattle.ov_index.specs.Indexing.{AreIndexesOf, is_indexed, lacking, has_none};
+ghost use Rattle.ov_index.specs.Indexing.{without_entry, without_entries};
 ghost use Rattle.ov_rows.specs.Nested.{in_table};
 
 use crate::entry::{IndexEntry, entries_of};
@@ -65,7 +67,8 @@ impl Indexes {
     /// nothing is changed.
     pub(crate) fn add(&mut self, alloc: Global, entry: IndexEntry) -> Result<bool, AllocError>
         ensures ok { OnOk result (self.new ≡ with_entry entry self.old) }
-        ensures is_new { IfOk result (λ is_new. is_new ≡ not (is_indexed self.old entry.key entry.id)) }
+        ensures is_new { IfOk result (λ is_new. is_new
+            ≡ not (is_indexed self.old entry.key entry.id)) }
         ensures err { OnErr result (self.new ≡ self.old) }
     {
         let IndexEntry { key, id } = entry;
@@ -96,7 +99,9 @@ impl Indexes {
         key: &RowKey,
         columns: &Columns,
     ) -> Result<(), AllocError>
-        ensures { OnOk result (self.new ≡ with_entries (entries_in (get schema.now.tables key.now.0) key.now columns.now) self.old) }
+        ensures { OnOk result (self.new
+            ≡ with_entries (entries_in (get schema.now.tables key.now.0) key.now columns.now)
+            self.old) }
     {
         self.add_all(alloc, entries_of(alloc, schema, key, columns)?)
     }
@@ -109,7 +114,8 @@ impl Indexes {
         name: &str,
         rows: &TableRows,
     ) -> Result<(), AllocError>
-        ensures { OnOk result (self.new ≡ with_rows schema.now (in_table name.now (entries rows.now)) self.old) }
+        ensures { OnOk result (self.new
+            ≡ with_rows schema.now (in_table name.now (entries rows.now)) self.old) }
     {
         for (id, row) in rows.map() {
             let key = RowKey::new(alloc, name, *id.as_uuid())?;
@@ -126,7 +132,8 @@ impl Indexes {
         name: &str,
         rows: &TableRows,
     ) -> Result<(), AllocError>
-        ensures { OnOk result (self.new ≡ with_rows schema.now (in_table name.now (entries rows.now)) self.old) }
+        ensures { OnOk result (self.new
+            ≡ with_rows schema.now (in_table name.now (entries rows.now)) self.old) }
     {
         if has_indexes(schema, name) {
             self.add_rows(alloc, schema, name, rows)

@@ -37,7 +37,8 @@ impl IndexKey {
         number: usize,
         values: Vec<Datum>,
     ) -> Result<IndexKey, AllocError>
-        ensures { IfOk result (λ key. key ≡ record { table = table.now; number = number; values = values.items }) }
+        ensures { IfOk result (λ key. key
+            ≡ record { table = table.now; number = number; values = values.items }) }
     {
         Ok(IndexKey {
             table: Text::from_str(alloc, table)?,

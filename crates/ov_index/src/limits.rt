@@ -37,7 +37,9 @@ fn has_more_than_max(table: &Table, name: &str, rows: &Rows) -> bool
 
 /// Whether the table of this name, if there is one, has too many rows.
 fn has_too_many(schema: &Schema, name: &str, rows: &Rows) -> bool
-    ensures { result ≡ is_some_and (λ table. has_too_many rows.now (name.now, table)) (get schema.now.tables name.now) }
+    ensures { result
+        ≡ is_some_and (λ table. has_too_many rows.now (name.now, table))
+        (get schema.now.tables name.now) }
 {
     match schema.table(name) {
         Some(table) => has_more_than_max(table, name, rows),
@@ -47,7 +49,11 @@ fn has_too_many(schema: &Schema, name: &str, rows: &Rows) -> bool
 
 /// Whether one of the tables of these names has too many rows.
 fn is_any_too_many(schema: &Schema, tables: &[(Text, Table)], rows: &Rows) -> bool
-    ensures { result ≡ list_any (λ t. is_some_and (λ table. has_too_many rows.now (t.0, table)) (get schema.now.tables t.0)) tables.now }
+    ensures { result
+        ≡ list_any
+        (λ t. is_some_and (λ table. has_too_many rows.now (t.0, table))
+        (get schema.now.tables t.0))
+        tables.now }
 {
     for (name, _table) in tables {
         if has_too_many(schema, name.as_str(), rows) {

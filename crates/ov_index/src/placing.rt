@@ -80,8 +80,10 @@ impl Indexes {
         requires indexed { AreIndexesOf schema.now rows.now self.old }
         requires added { room.old.added.items ≡ [] }
         requires gone { room.old.gone.items ≡ [] }
-        ensures back { AreIndexesOf schema.now rows.now (without_entries room.new.added.items self.new) }
-        ensures on { OnOk result (IsPlaced schema.now changes.now.entries rows.now room.new.gone.items self.new) }
+        ensures back { AreIndexesOf schema.now rows.now
+            (without_entries room.new.added.items self.new) }
+        ensures on { OnOk result
+            (IsPlaced schema.now changes.now.entries rows.now room.new.gone.items self.new) }
     {
         for (key, row) in changes {
             let new = entries_of_row(alloc, schema, key, row.as_ref())?;

@@ -1,7 +1,8 @@
 ghost use Rattle.std.specs.Prelude.{◌≡◌, ◌⊎◌, ◌<◌, ◌≤◌, ◌-◌, ◌^◌, ℕ, IfOk, IfErr, OnOk, OnErr};
 ghost use Rattle.ov_specs.specs.rows.Cells.{Stored, format_of, rewritten};
 ghost use Rattle.ov_keeper.specs.Views.{changes_view, lines_view};
-ghost use Rattle.ov_keeper.specs.Keeping.{LeavesNoMore, LeavesMade, LeavesRefused, IsCommitFault, IsLoadFault};
+ghost use Rattle.ov_keeper.specs.Keeping.{LeavesNoMore, LeavesMade, LeavesRefused, IsCommitFault};
+ghost use Rattle.ov_keeper.specs.Keeping.{IsLoadFault};
 ghost use Rattle.ov_keeper.specs.Keeping.{changed, loaded_contents};
 
 use crate::cell_line::CellLine;
@@ -51,7 +52,8 @@ pub trait Keeper {
     fn format(&self) -> u8
         ensures same { result ≡ format self.now }
         ensures kinds { (result ≡ 1) ⊎ (result ≡ 2) }
-        ensures found { is_honest self.now → (held : Stored) → leaves self.now held → result ≤ format_of held.lines };
+        ensures found { is_honest self.now → (held : Stored) → leaves self.now held
+            → result ≤ format_of held.lines };
 
     /// Returns the text of the schema and all rows.
     fn load(&mut self, alloc: Global) -> Result<Loaded, KeepFault>
@@ -72,9 +74,13 @@ pub trait Keeper {
     fn commit(&mut self, alloc: Global, changes: &[Change]) -> Result<(), KeepFault>
         requires { format self.old ≡ 2 }
         ensures ok { is_honest self.new
-            → OnOk result (LeavesMade (changed (changes_view changes.now)) (leaves self.old) (leaves self.new)) }
+            → OnOk result
+            (LeavesMade (changed (changes_view changes.now)) (leaves self.old)
+            (leaves self.new)) }
         ensures err { is_honest self.new
-            → IfErr result (LeavesRefused (changed (changes_view changes.now)) (leaves self.old) (leaves self.new)) }
+            → IfErr result
+            (LeavesRefused (changed (changes_view changes.now)) (leaves self.old)
+            (leaves self.new)) }
         ensures same_format { format self.new ≡ format self.old }
         ensures kinds { IfErr result IsCommitFault }
         // A failure of the device has a cause: its count rises, unless it is at its maximum.

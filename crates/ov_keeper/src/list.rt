@@ -1,6 +1,7 @@
 ghost use Rattle.std.specs.Prelude.{◌≡◌, ◌↔◌, IfOk, OnOk};
 ghost use Rattle.std.specs.FinMap.{empty, remove};
-ghost use Rattle.ov_specs.specs.rows.Cells.{Stored, InCells, after_cell_change, after_cell_changes, rewritten};
+ghost use Rattle.ov_specs.specs.rows.Cells.{Stored, InCells, after_cell_change, after_cell_changes};
+ghost use Rattle.ov_specs.specs.rows.Cells.{rewritten};
 ghost use Rattle.ov_keeper.specs.Keeping.{loaded_contents};
 ghost use Rattle.ov_keeper.specs.ListKeeper.{contents_of, lines_of};
 ghost use Rattle.ov_keeper.specs.Views.{change_view, changes_view};

@@ -1,15 +1,14 @@
 -- An "assert" passes only for the owner of the lock.
-use Rattle.std.proofs.Common.{◌≡◌, ℕ, zero, suc, ◌+◌, ◌-◌, List, [], ◌∷◌, ◌++◌, Bool, true, false, cond, eqb, leb, length, Option, Some, None, refl, sym, ap, subst, ◌∙◌}
+use Rattle.std.proofs.Common.{◌≡◌, ℕ, zero, suc, ◌+◌, ◌-◌, List, [], ◌++◌, Bool, true, false, cond, eqb, leb, length, Option, Some, None, refl, sym, ap, subst, ◌∙◌}
 use Rattle.std.specs.Prelude.{is_some}
 use Rattle.std.proofs.lemmas.Option.{same_Some}
 use Rattle.serde_json.specs.Data.{Data, Items, no_items, item}
 use Rattle.ov_specs.specs.locks.Queues.{owner, owns, freed}
 use Rattle.ov_specs.specs.machine.Machine.{State, Outcome, Committed, Exhausted, Failed, NoMemory, Outstanding, Sent, Stepped, Transact, works, does, draws_for, arrived, attempt, tries_again, commits, sends_at_once, closed, results_to, updates_sent, waits_on}
 use Rattle.ov_specs.specs.operations.Errors.{OpError, NotOwner, ResourcesExhausted, InputOutput, error_tree}
-use Rattle.ov_specs.specs.operations.InsertedIds.{inserted_ids}
 use Rattle.ov_specs.specs.operations.Operation.{outcome_of}
 use Rattle.ov_specs.specs.operations.OpOutcome.{Owns, OpContext, OpOutcome, Done, Fault, Blocked, empty_result}
-use Rattle.ov_specs.specs.operations.Transaction.{TransactionOutcome, Completes, Waits, and_result, nulls, after, performed, transaction, and_item, exhausted_results, failed_results}
+use Rattle.ov_specs.specs.operations.Transaction.{TransactionOutcome, Completes, Waits, and_result, nulls, after, performed, op_context, transaction, and_item, exhausted_results, failed_results}
 use Rattle.ov_specs.specs.rows.Database.{Database, same_database}
 use Rattle.ov_specs.specs.schema.SchemaTypes.{Schema}
 use Rattle.ov_specs.specs.values.Uuid.{Uuid}
@@ -84,16 +83,8 @@ module _ (c : OpContext) (name : List ℕ) where
 -- if an "assert" has passed, the lock is owned
 transaction_passes : (schema : Schema) (before : Database) (owns : Owns) (draws : List Uuid) (age : ℕ) (operations results : Items) (database : Database) (place : ℕ) (d : Data) (name : List ℕ)
     → transaction schema before owns draws age operations ≡ Completes results database → item_at place operations ≡ Some d → Asserts name d → Passes place results → owns name ≡ true
-transaction_passes schema before owns [] age operations results database place d name h at is passes = absurd (no (subst Later (sym h) passes))
-  where
-    Later : TransactionOutcome → Type 0
-    Later (Completes rs db) = Passes place rs
-    Later (Waits timeout) = ⊥
-
-    no : Passes place no_items → ⊥
-    no e = cc
-transaction_passes schema before owns (version ∷ draws) age operations results database place d name h at is passes =
-    performed_passes (record { schema = schema; before = before; owns = owns; version = version; ids = inserted_ids draws operations; operations = operations; age = age }) name 0 operations before results database place d h at is passes
+transaction_passes schema before owns draws age operations results database place d name h at is passes =
+    performed_passes (op_context schema before owns draws age operations) name 0 operations before results database place d h at is passes
 
 -- ---- an attempt
 

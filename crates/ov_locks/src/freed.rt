@@ -1,4 +1,5 @@
-ghost use Rattle.std.specs.Prelude.{◌≡◌, ◌<◌, ◌+◌, ◌-◌, ◌++◌, ◌∷◌, [], IfNone, OnOk, OnErr, option_to_list};
+ghost use Rattle.std.specs.Prelude.{◌≡◌, ◌<◌, ◌+◌, ◌-◌, ◌++◌, ◌∷◌, [], IfNone, OnOk, OnErr};
+ghost use Rattle.std.specs.Prelude.{option_to_list};
 
 use ov_base::Bytes;
 use std::alloc::{AllocError, Global};

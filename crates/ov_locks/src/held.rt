@@ -1,4 +1,5 @@
-ghost use Rattle.std.specs.Prelude.{◌≡◌, ◌==◌, ◌+◌, ℕ, [], ◌∷◌, length, true, false, if◌then◌else◌, IfOk, OnOk, OnErr};
+ghost use Rattle.std.specs.Prelude.{◌≡◌, ◌==◌, ◌+◌, ℕ, [], ◌∷◌, length, true, false, if◌then◌else◌};
+ghost use Rattle.std.specs.Prelude.{IfOk, OnOk, OnErr};
 ghost use Rattle.std.specs.BTreeMap.{is_at};
 ghost use Rattle.std.specs.BTreeSet.{insert_key};
 ghost use Rattle.std.specs.List.{list_any};
@@ -57,7 +58,9 @@ impl Held {
     /// Notes that the session asks for the lock.
     pub fn add(&mut self, alloc: Global, session: u64, name: &str) -> Result<(), AllocError>
         requires { list_any (is_at (name_cmp name.now)) (names_in session self.old) ≡ false }
-        ensures names { OnOk result ((other : ℕ) → names_in other self.new ≡ (if other == session then insert_key name_cmp (names_in other self.old) name.now else names_in other self.old)) }
+        ensures names { OnOk result ((other : ℕ) → names_in other self.new
+            ≡ (if other == session then insert_key name_cmp (names_in other self.old) name.now else
+            names_in other self.old)) }
         ensures count { OnOk result (requests_in self.new ≡ requests_in self.old + 1) }
         ensures err { OnErr result (self.new ≡ self.old) }
     {
@@ -76,8 +79,11 @@ impl Held {
 
     /// Notes that the session no longer asks for the lock.
     pub fn remove(&mut self, session: u64, name: &str)
-        ensures names { (other : ℕ) → names_in other self.new ≡ (if other == session then remove_key (is_at (name_cmp name.now)) (names_in other self.old) else names_in other self.old) }
-        ensures count { list_any (is_at (name_cmp name.now)) (names_in session self.old) ≡ true → requests_in self.new + 1 ≡ requests_in self.old }
+        ensures names { (other : ℕ) → names_in other self.new
+            ≡ (if other == session then remove_key (is_at (name_cmp name.now))
+            (names_in other self.old) else names_in other self.old) }
+        ensures count { list_any (is_at (name_cmp name.now)) (names_in session self.old) ≡ true
+            → requests_in self.new + 1 ≡ requests_in self.old }
     {
         if let Some(names) = self.of.get_mut(&session) {
             names.remove(name);
@@ -87,8 +93,10 @@ impl Held {
     /// Takes out all names of the session.
     pub fn take(&mut self, session: u64) -> Option<BTreeSet<String>>
         ensures names { names_taken result ≡ names_in session self.old }
-        ensures others { (other : ℕ) → names_in other self.new ≡ (if other == session then [] else names_in other self.old) }
-        ensures count { requests_in self.new + length (names_in session self.old) ≡ requests_in self.old }
+        ensures others { (other : ℕ) → names_in other self.new
+            ≡ (if other == session then [] else names_in other self.old) }
+        ensures count { requests_in self.new + length (names_in session self.old)
+            ≡ requests_in self.old }
     {
         self.of.remove(&session)
     }

@@ -45,7 +45,8 @@ impl Queue {
 
     /// Appends the session to the waiters for the lock of this name.
     pub fn wait(&mut self, alloc: Global, session: u64, name: &str) -> Result<(), AllocError>
-        ensures ok { OnOk result (self.new ≡ (self.old.0, self.old.1 ++ (session, frame (locked_notification name.now)) ∷ [])) }
+        ensures ok { OnOk result (self.new
+            ≡ (self.old.0, self.old.1 ++ (session, frame (locked_notification name.now)) ∷ [])) }
         ensures err { OnErr result (self.new ≡ self.old) }
     {
         let frame = locked(alloc, name)?;
@@ -62,7 +63,8 @@ impl Queue {
         name: &str,
     ) -> Result<(u64, Bytes), AllocError>
         ensures told { IfOk result (λ p. p ≡ (self.old.0, frame (stolen_notification name.now))) }
-        ensures ok { OnOk result (self.new ≡ (session, (self.old.0, frame (locked_notification name.now)) ∷ self.old.1)) }
+        ensures ok { OnOk result (self.new
+            ≡ (session, (self.old.0, frame (locked_notification name.now)) ∷ self.old.1)) }
         ensures err { OnErr result (self.new ≡ self.old) }
     {
         let told = stolen(alloc, name)?;

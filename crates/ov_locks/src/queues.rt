@@ -1,5 +1,7 @@
-ghost use Rattle.std.specs.Prelude.{◌≡◌, ℕ, List, [], not, is_some, option_map, if◌then◌else◌, IfOk, OnOk, OnErr};
-ghost use Rattle.ov_specs.specs.locks.Queues.{owner, next_in, next_owner, lock, steal, unlock, with_queue, without, stolen_notification};
+ghost use Rattle.std.specs.Prelude.{◌≡◌, ℕ, List, [], not, is_some, option_map, if◌then◌else◌};
+ghost use Rattle.std.specs.Prelude.{IfOk, OnOk, OnErr};
+ghost use Rattle.ov_specs.specs.locks.Queues.{owner, next_in, next_owner, lock, steal, unlock};
+ghost use Rattle.ov_specs.specs.locks.Queues.{with_queue, without, stolen_notification};
 ghost use Rattle.ov_specs.specs.wire.Frame.{frame};
 ghost use Rattle.ov_locks.specs.Freeing.{told};
 ghost use Rattle.ov_locks.specs.Queued.{sessions_of, AreToldOf};
@@ -73,7 +75,9 @@ impl Queues {
         session: u64,
         name: &str,
     ) -> Result<Option<(u64, Bytes)>, AllocError>
-        ensures told { IfOk result (λ told. told ≡ option_map (λ s. (s, frame (stolen_notification name.now))) (owner name.now self.old)) }
+        ensures told { IfOk result (λ told. told
+            ≡ option_map (λ s. (s, frame (stolen_notification name.now)))
+            (owner name.now self.old)) }
         ensures ok { OnOk result (self.new ≡ steal name.now session self.old) }
         ensures err { OnErr result (self.new ≡ self.old) }
     {
@@ -106,7 +110,8 @@ impl Queues {
     /// Like `unlock`, but does not remove the queue if nobody else is in it, and returns whether that is so.
     fn leave(&mut self, session: u64, name: &str) -> (Option<(u64, Bytes)>, bool)
         ensures told { result.0 ≡ told name.now (next_owner name.now session self.old) }
-        ensures queues { (if result.1 then with_queue name.now [] self.new else self.new) ≡ unlock name.now session self.old }
+        ensures queues { (if result.1 then with_queue name.now [] self.new else self.new)
+            ≡ unlock name.now session self.old }
     {
         match self.of.get_mut(name) {
             Some(queue) => leave_queue(queue, session),
@@ -118,8 +123,11 @@ impl Queues {
 /// The session leaves the queue. Returns the session that becomes the owner by that, and the frame that notifies it; and
 /// whether nobody is left, and the queue has to be removed.
 fn leave_queue(queue: &mut Queue, session: u64) -> (Option<(u64, Bytes)>, bool)
-    ensures left { (if result.1 then [] else sessions_of queue.new) ≡ without session (sessions_of queue.old) }
-    ensures told { (name : List ℕ) → AreToldOf name queue.old.1 → AreToldOf name queue.new.1 × (result.0 ≡ told name (next_in session (sessions_of queue.old))) }
+    ensures left { (if result.1 then [] else sessions_of queue.new)
+        ≡ without session (sessions_of queue.old) }
+    ensures told { (name : List ℕ) → AreToldOf name queue.old.1
+        → AreToldOf name queue.new.1
+        × (result.0 ≡ told name (next_in session (sessions_of queue.old))) }
 {
     queue.drop_waiter(session);
     if queue.owner() != session {

@@ -1,9 +1,13 @@
-ghost use Rattle.std.specs.Prelude.{◌≡◌, ◌==◌, ◌+◌, ◌-◌, ◌<◌, ◌≤◌, ◌++◌, ℕ, [], length, map, not, is_some, true, false, string_bytes, option_map, option_to_list, if◌then◌else◌, Ok, Err, IfOk, IfNone, OnOk, OnErr};
+ghost use Rattle.std.specs.Prelude.{◌≡◌, ◌==◌, ◌+◌, ◌-◌, ◌<◌, ◌≤◌, ◌++◌, ℕ, [], length, map, not};
+ghost use Rattle.std.specs.Prelude.{is_some, true, false, string_bytes, option_map, option_to_list};
+ghost use Rattle.std.specs.Prelude.{if◌then◌else◌, Ok, Err, IfOk, IfNone, OnOk, OnErr};
 ghost use Rattle.std.specs.BTreeMap.{is_at};
 ghost use Rattle.std.specs.BTreeSet.{insert_key};
 ghost use Rattle.std.specs.List.{list_any};
 ghost use Rattle.std.specs.Set.{remove_key};
-ghost use Rattle.ov_specs.specs.locks.Queues.{owner, has_requested, lock, steal, unlock, next_owner, leave, freed, stolen_notification, requests_of, DoQueuesAscend};
+ghost use Rattle.ov_specs.specs.locks.Queues.{owner, has_requested, lock, steal, unlock};
+ghost use Rattle.ov_specs.specs.locks.Queues.{next_owner, leave, freed, stolen_notification};
+ghost use Rattle.ov_specs.specs.locks.Queues.{requests_of, DoQueuesAscend};
 ghost use Rattle.ov_specs.specs.schema.SchemaTypes.{name_cmp};
 ghost use Rattle.ov_specs.specs.wire.Frame.{frame};
 ghost use Rattle.ov_locks.specs.Freeing.{told, told_all, unlock_all, freed_all};
@@ -106,7 +110,9 @@ impl LockTable {
         name: &str,
     ) -> Result<Option<(u64, Bytes)>, LockFault>
         ensures refused { RefusesFor (request_refusal name.now session self.old.0) result }
-        ensures told { IfOk result (λ told. told ≡ option_map (λ s. (s, frame (stolen_notification name.now))) (owner name.now self.old.0)) }
+        ensures told { IfOk result (λ told. told
+            ≡ option_map (λ s. (s, frame (stolen_notification name.now)))
+            (owner name.now self.old.0)) }
         ensures ok { OnOk result (self.new ≡ (steal name.now session self.old.0, self.old.1)) }
         ensures err { OnErr result (self.new ≡ self.old) }
     {
@@ -123,7 +129,10 @@ impl LockTable {
     /// The session gives up the lock, or stops waiting for it. Returns the session that becomes the owner by that, and the
     /// frame that notifies it (RFC 7047, 4.1.8 and 4.1.9). Allocates nothing, and is refused only as `NotHeld`.
     pub fn unlock(&mut self, session: u64, name: &str) -> Result<Option<(u64, Bytes)>, LockFault>
-        ensures answer { result ≡ (if has_requested session name.now self.old.0 then Ok (told name.now (next_owner name.now session self.old.0)) else Err LockFault.NotHeld) }
+        ensures answer { result
+            ≡ (if has_requested session name.now self.old.0 then Ok
+            (told name.now (next_owner name.now session self.old.0)) else Err
+            LockFault.NotHeld) }
         ensures ok { OnOk result (self.new ≡ (unlock name.now session self.old.0, self.old.1)) }
         ensures err { OnErr result (self.new ≡ self.old) }
     {
@@ -137,7 +146,8 @@ impl LockTable {
     /// The session gives up all locks, and stops waiting for any, as when it is closed. The sessions that become owners by
     /// that are kept for `next_freed`, in ascending order of the locks' names, after earlier ones. Allocates nothing.
     pub fn leave_all(&mut self, session: u64)
-        ensures { self.new ≡ (leave session self.old.0, self.old.1 ++ told_all (freed session self.old.0)) }
+        ensures { self.new
+            ≡ (leave session self.old.0, self.old.1 ++ told_all (freed session self.old.0)) }
     {
         if let Some(names) = self.held.take(session) {
             leave_each(&mut self.queues, &mut self.freed, session, names);
@@ -164,9 +174,15 @@ fn request(
     session: u64,
     name: &str,
 ) -> Result<(), LockFault>
-    ensures refused { RefusesFor (refusal_for (list_any (is_at (name_cmp name.now)) (names_in session held.old)) (length (names_in session held.old))) result }
-    ensures names { OnOk result ((other : ℕ) → names_in other held.new ≡ (if other == session then insert_key name_cmp (names_in other held.old) name.now else names_in other held.old)) }
-    ensures places { OnOk result ((requests_in held.new ≡ requests_in held.old + 1) × (freed.new ≡ (freed.old.0, freed.old.1 + 1))) }
+    ensures refused { RefusesFor
+        (refusal_for (list_any (is_at (name_cmp name.now)) (names_in session held.old))
+        (length (names_in session held.old)))
+        result }
+    ensures names { OnOk result ((other : ℕ) → names_in other held.new
+        ≡ (if other == session then insert_key name_cmp (names_in other held.old) name.now else
+        names_in other held.old)) }
+    ensures places { OnOk result ((requests_in held.new ≡ requests_in held.old + 1)
+        × (freed.new ≡ (freed.old.0, freed.old.1 + 1))) }
     ensures err { OnErr result ((held.new ≡ held.old) × (freed.new ≡ freed.old)) }
 {
     if held.has(session, name) {
@@ -185,8 +201,11 @@ fn request(
 
 /// Notes that the session no longer asks for the lock.
 fn take_back(held: &mut Held, freed: &mut Freed, session: u64, name: &str)
-    ensures names { (other : ℕ) → names_in other held.new ≡ (if other == session then remove_key (is_at (name_cmp name.now)) (names_in other held.old) else names_in other held.old) }
-    ensures requests { list_any (is_at (name_cmp name.now)) (names_in session held.old) ≡ true → requests_in held.new + 1 ≡ requests_in held.old }
+    ensures names { (other : ℕ) → names_in other held.new
+        ≡ (if other == session then remove_key (is_at (name_cmp name.now)) (names_in other held.old)
+        else names_in other held.old) }
+    ensures requests { list_any (is_at (name_cmp name.now)) (names_in session held.old) ≡ true
+        → requests_in held.new + 1 ≡ requests_in held.old }
     ensures places { freed.new ≡ (freed.old.0, freed.old.1 - 1) }
 {
     held.remove(session, name);
@@ -197,7 +216,8 @@ fn take_back(held: &mut Held, freed: &mut Freed, session: u64, name: &str)
 fn leave_each(queues: &mut Queues, freed: &mut Freed, session: u64, names: BTreeSet<String>)
     requires { length (names_of_set names) ≤ freed.old.1 }
     ensures queues { queues.new ≡ unlock_all session (names_of_set names) queues.old }
-    ensures freed { freed.new.0 ≡ freed.old.0 ++ told_all (freed_all session (names_of_set names) queues.old) }
+    ensures freed { freed.new.0
+        ≡ freed.old.0 ++ told_all (freed_all session (names_of_set names) queues.old) }
     ensures places { freed.new.1 + length (names_of_set names) ≡ freed.old.1 }
 {
     for name in names {
@@ -209,7 +229,8 @@ fn leave_each(queues: &mut Queues, freed: &mut Freed, session: u64, names: BTree
 fn leave_one(queues: &mut Queues, freed: &mut Freed, session: u64, name: &str)
     requires { 0 < freed.old.1 }
     ensures queues { queues.new ≡ unlock name.now session queues.old }
-    ensures freed { freed.new.0 ≡ freed.old.0 ++ option_to_list (told name.now (next_owner name.now session queues.old)) }
+    ensures freed { freed.new.0
+        ≡ freed.old.0 ++ option_to_list (told name.now (next_owner name.now session queues.old)) }
     ensures places { freed.new.1 + 1 ≡ freed.old.1 }
 {
     match queues.unlock(session, name) {

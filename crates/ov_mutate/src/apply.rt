@@ -46,7 +46,9 @@ fn set_computed(
     by: i64,
     atoms: &[Atom],
 ) -> Result<Datum, MutateFault>
-    ensures { IsMutated (λ d. d) (set_computed column.now.type_of (operator_view operator) by (atoms_view atoms.now)) result }
+    ensures { IsMutated (λ d. d)
+        (set_computed column.now.type_of (operator_view operator) by (atoms_view atoms.now))
+        result }
 {
     let results = each_computed(alloc, operator, by, atoms)?;
     distinct(column, results)
@@ -60,7 +62,8 @@ impl ValueChange {
         column: &Column,
         datum: &Datum,
     ) -> Result<Datum, MutateFault>
-        ensures { IsMutated (λ d. d) (mutated column.now.type_of (value_change_view self.now) datum.now) result }
+        ensures { IsMutated (λ d. d)
+            (mutated column.now.type_of (value_change_view self.now) datum.now) result }
     {
         match self {
             ValueChange::Compute(operator, by) => match datum.atoms() {

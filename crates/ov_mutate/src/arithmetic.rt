@@ -37,7 +37,8 @@ impl Operator {
 
     /// What it makes of an atom, which is a number.
     fn atom_computed(self, by: i64, atom: &Atom) -> Result<Atom, MutateFault>
-        ensures { IsMutated atom_view (atom_computed (operator_view self) by (atom_view atom.now)) result }
+        ensures { IsMutated atom_view (atom_computed (operator_view self) by (atom_view atom.now))
+            result }
     {
         if self.divides_by_zero(by) {
             return Err(MutateFault::Domain);
@@ -59,7 +60,8 @@ pub(crate) fn each_computed(
     by: i64,
     atoms: &[Atom],
 ) -> Result<Vec<Atom>, MutateFault>
-    ensures { IsMutated (λ v. atoms_view v.items) (each_computed (operator_view operator) by (atoms_view atoms.now)) result }
+    ensures { IsMutated (λ v. atoms_view v.items)
+        (each_computed (operator_view operator) by (atoms_view atoms.now)) result }
 {
     let mut results = Vec::new(alloc);
     for atom in atoms {

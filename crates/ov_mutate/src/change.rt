@@ -26,7 +26,10 @@ pub(crate) enum ValueChange {
 
 /// Reads a number from a tree, as for a scalar.
 fn read_integer<N: Names>(alloc: Global, tree: &Value, names: &N) -> Result<i64, MutationFault>
-    ensures { IsMutationRead (λ n. n) (integer_or_syntax (integer_of (reads (N.names names.now) (value.Single value.Integers) (view tree.now)))) result }
+    ensures { IsMutationRead (λ n. n)
+        (integer_or_syntax
+        (integer_of (reads (N.names names.now) (value.Single value.Integers) (view tree.now))))
+        result }
 {
     match read_datum(alloc, tree, Kinds::Single(AtomKind::Integer), names) {
         Ok(datum) => Elements::of(&datum).number().ok_or(MutationFault::Syntax),
@@ -78,7 +81,10 @@ impl ValueChange {
         tree: &Value,
         names: &N,
     ) -> Result<ValueChange, MutationFault>
-        ensures { IsMutationRead value_change_view (change_read (N.names names.now) column.now.type_of (mutator_view mutator) (view tree.now)) result }
+        ensures { IsMutationRead value_change_view
+            (change_read (N.names names.now) column.now.type_of (mutator_view mutator)
+            (view tree.now))
+            result }
     {
         match mutator {
             Mutator::Computes(operator) => {

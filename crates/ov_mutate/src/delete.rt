@@ -12,7 +12,8 @@ use std::alloc::{AllocError, Global};
 
 /// The atoms that are not among the deleted ones. Both ascend.
 fn remaining_atoms(alloc: Global, atoms: &[Atom], gone: &[Atom]) -> Result<Vec<Atom>, AllocError>
-    ensures { IfOk result (λ v. atoms_view v.items ≡ left.remaining_atoms (atoms_view gone.now) (atoms_view atoms.now)) }
+    ensures { IfOk result (λ v. atoms_view v.items
+        ≡ left.remaining_atoms (atoms_view gone.now) (atoms_view atoms.now)) }
 {
     let mut left = Vec::new(alloc);
     let mut rest = gone;
@@ -38,7 +39,8 @@ fn remaining_pairs(
     pairs: &[(Atom, Atom)],
     gone: &[(Atom, Atom)],
 ) -> Result<Vec<(Atom, Atom)>, AllocError>
-    ensures { IfOk result (λ v. pairs_view v.items ≡ left.remaining_pairs (pairs_view gone.now) (pairs_view pairs.now)) }
+    ensures { IfOk result (λ v. pairs_view v.items
+        ≡ left.remaining_pairs (pairs_view gone.now) (pairs_view pairs.now)) }
 {
     let mut left = Vec::new(alloc);
     let mut rest = gone;
@@ -57,7 +59,8 @@ fn pairs_without_keys(
     pairs: &[(Atom, Atom)],
     gone: &[Atom],
 ) -> Result<Vec<(Atom, Atom)>, AllocError>
-    ensures { IfOk result (λ v. pairs_view v.items ≡ left.pairs_without_keys (atoms_view gone.now) (pairs_view pairs.now)) }
+    ensures { IfOk result (λ v. pairs_view v.items
+        ≡ left.pairs_without_keys (atoms_view gone.now) (pairs_view pairs.now)) }
 {
     let mut left = Vec::new(alloc);
     let mut rest = gone;

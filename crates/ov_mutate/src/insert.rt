@@ -13,7 +13,8 @@ use std::alloc::{AllocError, Global};
 
 /// Appends copies of the atoms.
 fn push_atoms(alloc: Global, list: &mut Vec<Atom>, atoms: &[Atom]) -> Result<(), AllocError>
-    ensures { OnOk result (atoms_view list.new.items ≡ atoms_view list.old.items ++ atoms_view atoms.now) }
+    ensures { OnOk result (atoms_view list.new.items
+        ≡ atoms_view list.old.items ++ atoms_view atoms.now) }
 {
     for atom in atoms {
         list.push(atom.copy(alloc)?)?;
@@ -55,7 +56,8 @@ fn inserted_pairs(
     column: &[(Atom, Atom)],
     elements: &[(Atom, Atom)],
 ) -> Result<Vec<(Atom, Atom)>, AllocError>
-    ensures { IfOk result (λ v. pairs_view v.items ≡ pairs_view column.now ++ at_new_keys (pairs_view column.now) (pairs_view elements.now)) }
+    ensures { IfOk result (λ v. pairs_view v.items
+        ≡ pairs_view column.now ++ at_new_keys (pairs_view column.now) (pairs_view elements.now)) }
 {
     let mut pairs = copy_pairs(alloc, column)?;
     let mut rest = column;

@@ -48,7 +48,8 @@ impl<'a> Mutation<'a> {
         tree: &Value,
         names: &N,
     ) -> Result<Mutation<'a>, MutationFault>
-        ensures value { IsMutationRead (λ m. m) (mutation_read (N.names names.now) table.now (view tree.now)) result }
+        ensures value { IsMutationRead (λ m. m)
+            (mutation_read (N.names names.now) table.now (view tree.now)) result }
         ensures suits { AreUuids (N.names names.now) → IfOk result (λ m. suits_mutation m ≡ true) }
     {
         let Some(parts) = Triple::read(tree) else {
@@ -82,8 +83,10 @@ impl<'a> Mutation<'a> {
     /// constraint error (RFC 7047, 5.2.4, which sets no order). The original value stays. A value of the column's kinds stays
     /// one if the mutation was read with names that stand for identifiers alone.
     pub fn mutate(&self, alloc: Global, datum: &Datum) -> Result<Datum, MutateFault>
-        ensures value { IsMutated (λ d. d) (mutated self.now.type_of self.now.change datum.now) result }
-        ensures kinds { suits_mutation self.now ≡ true → is_of (kinds_of self.now.type_of) datum.now ≡ true
+        ensures value { IsMutated (λ d. d) (mutated self.now.type_of self.now.change datum.now)
+            result }
+        ensures kinds { suits_mutation self.now ≡ true
+            → is_of (kinds_of self.now.type_of) datum.now ≡ true
             → IfOk result (λ d. is_of (kinds_of self.now.type_of) d ≡ true) }
     {
         self.change.apply(alloc, self.column, datum)

@@ -33,7 +33,7 @@ fn put_new<O: Owns>(
     table: &str,
     columns: Columns,
     is_chosen: bool,
-    id: Option<Uuid>,
+    id: Uuid,
 ) -> Result<OpResult, OpFault>
     ensures done { IsDone
         (spec.put_new (context_of O.owned ctx.now stage.old.before) stage.old.now table.now columns
@@ -41,9 +41,6 @@ fn put_new<O: Owns>(
         result stage.new.now }
     ensures frame { stage.new.before ≡ stage.old.before }
 {
-    let Some(id) = id else {
-        return Err(OpFault::Refused(OpError::ResourcesExhausted));
-    };
     let key = RowKey::new(alloc, table, id)?;
     if is_taken(stage, &key, is_chosen) {
         return Err(OpFault::Refused(OpError::DuplicateUuid));

@@ -1,4 +1,5 @@
-ghost use Rattle.std.specs.Prelude.{◌≡◌, ◌+◌, ◌<◌, ◌↔◌, [], None, IsTrue, ◌∷◌, ◌++◌, IfOk, IfNone, IfSome, MatchBool, MatchOption};
+ghost use Rattle.std.specs.Prelude.{◌≡◌, ◌+◌, ◌<◌, ◌↔◌, [], None, IsTrue, ◌∷◌, ◌++◌, IfOk, IfNone};
+ghost use Rattle.std.specs.Prelude.{IfSome, MatchBool, MatchOption};
 ghost use Rattle.ov_order.specs.OrderBook.{noted, HasRoom, Notes, Takes, Says};
 
 use crate::noter::Noter;
@@ -57,9 +58,12 @@ impl<L: Ledger> OrderBook<L> {
     /// Notes the noter's serial, after all that wait. Refused if 4,160 notes wait or 2^64-1 serials were noted.
     pub fn note(&mut self, noter: &mut Noter<L>) -> bool
         ensures room { IsTrue result ↔ HasRoom self.old }
-        ensures book { MatchBool result (Notes noter.old.serial self.old self.new) (self.new ≡ self.old) }
-        ensures amount { MatchBool result (noter.new.share.amount ≡ noter.old.share.amount + 1) (noter.new.share.amount ≡ noter.old.share.amount) }
-        ensures noter { (noter.new.serial ≡ noter.old.serial) × (noter.new.share.parts ≡ noter.old.share.parts) }
+        ensures book { MatchBool result (Notes noter.old.serial self.old self.new) (self.new
+            ≡ self.old) }
+        ensures amount { MatchBool result (noter.new.share.amount
+            ≡ noter.old.share.amount + 1) (noter.new.share.amount ≡ noter.old.share.amount) }
+        ensures noter { (noter.new.serial ≡ noter.old.serial)
+            × (noter.new.share.parts ≡ noter.old.share.parts) }
     {
         if self.waiting.len() >= NOTE_LIMIT || self.noted == u64::MAX {
             return false;

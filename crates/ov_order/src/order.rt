@@ -53,7 +53,8 @@ impl<L: Ledger> Order<L> {
     /// Notes the noter's serial once there is room for the note, and wakes all that wait.
     fn wait_note<R: Wait>(&self, rt: &R, noter: &mut Noter<L>)
         ensures amount { noter.new.share.amount ≡ noter.old.share.amount + 1 }
-        ensures noter { (noter.new.serial ≡ noter.old.serial) × (noter.new.share.parts ≡ noter.old.share.parts) }
+        ensures noter { (noter.new.serial ≡ noter.old.serial)
+            × (noter.new.share.parts ≡ noter.old.share.parts) }
     {
         for _ in rt.forever() {
             let is_noted = self.lock(rt).note(noter);
@@ -78,7 +79,8 @@ impl<L: Ledger> Order<L> {
         ensures ring { SameProducer ring.old ring.new }
         ensures sent { sent ring.new ≡ sent ring.old ++ item ∷ [] }
         ensures amount { noter.new.share.amount ≡ noter.old.share.amount + 1 }
-        ensures noter { (noter.new.serial ≡ noter.old.serial) × (noter.new.share.parts ≡ noter.old.share.parts) }
+        ensures noter { (noter.new.serial ≡ noter.old.serial)
+            × (noter.new.share.parts ≡ noter.old.share.parts) }
     {
         wait_push(rt, ring, item);
         self.wait_note(rt, noter);

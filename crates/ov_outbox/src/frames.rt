@@ -1,6 +1,9 @@
-ghost use Rattle.std.specs.Prelude.{◌≡◌, ◌==◌, ◌≢◌, ◌++◌, ◌<◌, ℕ, [], length, false, IfOk, IfNone, OnOk, MatchBool, option_to_list};
+ghost use Rattle.std.specs.Prelude.{◌≡◌, ◌==◌, ◌≢◌, ◌++◌, ◌<◌, ℕ, [], length, false, IfOk, IfNone};
+ghost use Rattle.std.specs.Prelude.{OnOk, MatchBool, option_to_list};
 ghost use Rattle.ov_specs.specs.machine.History.{joined};
-ghost use Rattle.ov_outbox.specs.Frames.{waiting_for, places_for, has_queue, PostsFrame, HasSameFrames, HasSamePlaces, ClearsSession, KeepsPlace, GivesUpPlace, GivesUpPlaces};
+ghost use Rattle.ov_outbox.specs.Frames.{waiting_for, places_for, has_queue, PostsFrame};
+ghost use Rattle.ov_outbox.specs.Frames.{HasSameFrames, HasSamePlaces, ClearsSession, KeepsPlace};
+ghost use Rattle.ov_outbox.specs.Frames.{GivesUpPlace, GivesUpPlaces};
 
 use crate::queue::Queue;
 use ov_base::Bytes;
@@ -34,7 +37,8 @@ impl FrameQueues {
 
     /// Appends a frame to those of its session, unless an allocation fails. The kept places stay as they are.
     pub fn push(&mut self, alloc: Global, session: u64, frame: Bytes) -> bool
-        ensures frames { MatchBool result (PostsFrame session frame self.old self.new) (HasSameFrames self.old self.new) }
+        ensures frames { MatchBool result (PostsFrame session frame self.old self.new)
+            (HasSameFrames self.old self.new) }
         ensures places { HasSamePlaces self.old self.new }
     {
         if !self.opens(alloc, session) {
@@ -49,7 +53,8 @@ impl FrameQueues {
     /// Keeps one more place for the session, unless an allocation fails: `push_kept` or `give_up_place` takes it.
     pub fn keep_place(&mut self, alloc: Global, session: u64) -> bool
         ensures frames { HasSameFrames self.old self.new }
-        ensures places { MatchBool result (KeepsPlace session self.old self.new) (HasSamePlaces self.old self.new) }
+        ensures places { MatchBool result (KeepsPlace session self.old self.new)
+            (HasSamePlaces self.old self.new) }
     {
         if !self.opens(alloc, session) {
             return false;
@@ -104,8 +109,10 @@ impl FrameQueues {
 
     /// Takes out the oldest frame of the session.
     pub fn pop(&mut self, session: u64) -> Option<Bytes>
-        ensures session { waiting_for session self.old ≡ option_to_list result ++ waiting_for session self.new }
-        ensures others { (other : ℕ) → other ≢ session → waiting_for other self.new ≡ waiting_for other self.old }
+        ensures session { waiting_for session self.old
+            ≡ option_to_list result ++ waiting_for session self.new }
+        ensures others { (other : ℕ) → other ≢ session
+            → waiting_for other self.new ≡ waiting_for other self.old }
         ensures none { IfNone result (waiting_for session self.old ≡ []) }
         ensures places { HasSamePlaces self.old self.new }
     {

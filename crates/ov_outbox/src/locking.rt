@@ -1,11 +1,14 @@
-ghost use Rattle.std.specs.Prelude.{◌≡◌, ◌<◌, ◌≤◌, ◌+◌, ℕ, List, [], length, map, not, is_some, Option, IfOk, IfSome, MatchBool, option_map, option_to_list};
+ghost use Rattle.std.specs.Prelude.{◌≡◌, ◌<◌, ◌≤◌, ◌+◌, ℕ, List, [], length, map, not, is_some};
+ghost use Rattle.std.specs.Prelude.{Option, IfOk, IfSome, MatchBool, option_map, option_to_list};
 ghost use Rattle.serde_json.specs.Data.{object, no_members};
 ghost use Rattle.serde_json.specs.View.{view};
-ghost use Rattle.ov_specs.specs.locks.Queues.{DoQueuesAscend, Lock, Steal, Unlock, lock_result, owns, leave, told_of_leaving};
+ghost use Rattle.ov_specs.specs.locks.Queues.{DoQueuesAscend, Lock, Steal, Unlock, lock_result};
+ghost use Rattle.ov_specs.specs.locks.Queues.{owns, leave, told_of_leaving};
 ghost use Rattle.ov_specs.specs.machine.Machine.{Sent, told};
 ghost use Rattle.ov_specs.specs.wire.Frame.{frame, reply_tree};
 ghost use Rattle.ov_outbox.specs.Asking.{IsAsked, parts};
-ghost use Rattle.ov_outbox.specs.Frames.{places_for, count_of, PostsAll, PostsSent, HasSameFrames, HasSamePlaces, KeepsTwoFor, GivesUpTwoFor, TakesPlaces};
+ghost use Rattle.ov_outbox.specs.Frames.{places_for, count_of, PostsAll, PostsSent, HasSameFrames};
+ghost use Rattle.ov_outbox.specs.Frames.{HasSamePlaces, KeepsTwoFor, GivesUpTwoFor, TakesPlaces};
 ghost use Rattle.ov_outbox.specs.Waits.{HasRoom};
 
 use crate::frames::FrameQueues;
@@ -36,7 +39,8 @@ pub(crate) fn lock(
 ) -> Result<(), LockFault>
     requires order { DoQueuesAscend locks.old.0 }
     requires room { HasRoom frames.old locks.old.0 }
-    ensures asked { IsAsked Lock session id.now name.now (parts frames.old locks.old.0) result (parts frames.new locks.new.0) }
+    ensures asked { IsAsked Lock session id.now name.now (parts frames.old locks.old.0) result
+        (parts frames.new locks.new.0) }
     ensures room { HasRoom frames.new locks.new.0 }
     ensures freed { locks.new.1 ≡ locks.old.1 }
 {
@@ -71,7 +75,8 @@ pub(crate) fn steal(
 ) -> Result<(), LockFault>
     requires order { DoQueuesAscend locks.old.0 }
     requires room { HasRoom frames.old locks.old.0 }
-    ensures asked { IsAsked Steal session id.now name.now (parts frames.old locks.old.0) result (parts frames.new locks.new.0) }
+    ensures asked { IsAsked Steal session id.now name.now (parts frames.old locks.old.0) result
+        (parts frames.new locks.new.0) }
     ensures room { HasRoom frames.new locks.new.0 }
     ensures freed { locks.new.1 ≡ locks.old.1 }
 {
@@ -110,7 +115,8 @@ pub(crate) fn unlock(
 ) -> Result<(), LockFault>
     requires order { DoQueuesAscend locks.old.0 }
     requires room { HasRoom frames.old locks.old.0 }
-    ensures asked { IsAsked Unlock session id.now name.now (parts frames.old locks.old.0) result (parts frames.new locks.new.0) }
+    ensures asked { IsAsked Unlock session id.now name.now (parts frames.old locks.old.0) result
+        (parts frames.new locks.new.0) }
     ensures room { HasRoom frames.new locks.new.0 }
     ensures freed { locks.new.1 ≡ locks.old.1 }
 {
@@ -176,7 +182,8 @@ fn tell(frames: &mut FrameQueues, notification: Option<(u64, Bytes)>)
 /// Keeps two places for the session, if there is one; keeps none if an allocation fails.
 fn keep_two_for(alloc: Global, frames: &mut FrameQueues, session: Option<u64>) -> bool
     ensures frames { HasSameFrames frames.old frames.new }
-    ensures places { MatchBool result (KeepsTwoFor session frames.old frames.new) (HasSamePlaces frames.old frames.new) }
+    ensures places { MatchBool result (KeepsTwoFor session frames.old frames.new)
+        (HasSamePlaces frames.old frames.new) }
 {
     let Some(session) = session else {
         return true;

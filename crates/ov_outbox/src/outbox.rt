@@ -1,10 +1,12 @@
-ghost use Rattle.std.specs.Prelude.{◌≡◌, ◌≢◌, ◌++◌, ℕ, [], false, IfOk, IfNone, MatchBool, option_to_list};
+ghost use Rattle.std.specs.Prelude.{◌≡◌, ◌≢◌, ◌++◌, ℕ, [], false, IfOk, IfNone, MatchBool};
+ghost use Rattle.std.specs.Prelude.{option_to_list};
 ghost use Rattle.ov_locks.specs.Calls.{lock_call_view};
 ghost use Rattle.ov_specs.specs.locks.Queues.{DoQueuesAscend, owns, leave, told_of_leaving};
 ghost use Rattle.ov_specs.specs.machine.History.{joined};
 ghost use Rattle.ov_specs.specs.machine.Machine.{told};
 ghost use Rattle.ov_outbox.specs.Asking.{IsAsked};
-ghost use Rattle.ov_outbox.specs.Frames.{waiting_for, has_queue, PostsFrame, PostsSent, HasSameFrames, ClearsSession};
+ghost use Rattle.ov_outbox.specs.Frames.{waiting_for, has_queue, PostsFrame, PostsSent};
+ghost use Rattle.ov_outbox.specs.Frames.{HasSameFrames, ClearsSession};
 ghost use Rattle.ov_outbox.specs.Waits.{HasRoom, IsOutOfQueues};
 
 use crate::frames::FrameQueues;
@@ -70,7 +72,8 @@ impl Outbox {
 
     /// Appends a frame to those of its session, unless an allocation fails.
     pub fn push(&mut self, alloc: Global, session: u64, frame: Bytes) -> bool
-        ensures frames { MatchBool result (PostsFrame session frame self.old.frames self.new.frames) (HasSameFrames self.old.frames self.new.frames) }
+        ensures frames { MatchBool result (PostsFrame session frame self.old.frames self.new.frames)
+            (HasSameFrames self.old.frames self.new.frames) }
         ensures queues { self.new.queues ≡ self.old.queues }
     {
         self.frames.push(alloc, session, frame)
@@ -78,8 +81,10 @@ impl Outbox {
 
     /// Takes out the oldest frame of the session.
     pub fn pop(&mut self, session: u64) -> Option<Bytes>
-        ensures session { waiting_for session self.old.frames ≡ option_to_list result ++ waiting_for session self.new.frames }
-        ensures others { (other : ℕ) → other ≢ session → waiting_for other self.new.frames ≡ waiting_for other self.old.frames }
+        ensures session { waiting_for session self.old.frames
+            ≡ option_to_list result ++ waiting_for session self.new.frames }
+        ensures others { (other : ℕ) → other ≢ session
+            → waiting_for other self.new.frames ≡ waiting_for other self.old.frames }
         ensures none { IfNone result (waiting_for session self.old.frames ≡ []) }
         ensures queues { self.new.queues ≡ self.old.queues }
     {
@@ -97,7 +102,8 @@ impl Outbox {
     pub fn clear(&mut self, session: u64)
         ensures frames { ClearsSession session self.old.frames self.new.frames }
         ensures queues { self.new.queues ≡ self.old.queues }
-        ensures gone { IsOutOfQueues session self.old.queues → has_queue session self.new.frames ≡ false }
+        ensures gone { IsOutOfQueues session self.old.queues
+            → has_queue session self.new.frames ≡ false }
     {
         self.locks.in_order();
         if self.locks.requests(session) == 0 {
@@ -111,7 +117,8 @@ impl Outbox {
     pub fn forget(&mut self, session: u64)
         ensures frames { HasSameFrames self.old.frames self.new.frames }
         ensures queues { self.new.queues ≡ self.old.queues }
-        ensures gone { IsOutOfQueues session self.old.queues → waiting_for session self.old.frames ≡ [] → has_queue session self.new.frames ≡ false }
+        ensures gone { IsOutOfQueues session self.old.queues
+            → waiting_for session self.old.frames ≡ [] → has_queue session self.new.frames ≡ false }
     {
         self.locks.in_order();
         if self.frames.is_empty(session) && self.locks.requests(session) == 0 {
@@ -163,7 +170,8 @@ impl Outbox {
     /// 7047, 4.1.9). Allocates nothing.
     pub fn leave(&mut self, session: u64)
         ensures queues { self.new.queues ≡ leave session self.old.queues }
-        ensures posts { PostsSent (told (told_of_leaving session self.old.queues)) self.old.frames self.new.frames }
+        ensures posts { PostsSent (told (told_of_leaving session self.old.queues)) self.old.frames
+            self.new.frames }
     {
         locking::leave(&mut self.frames, &mut self.locks, session);
     }

@@ -1,6 +1,7 @@
 ghost use Rattle.std.specs.Prelude.{◌≡◌, ◌≤◌, ◌+◌, ◌++◌, ℕ, List, [], ◌∷◌, map, MatchBool};
 ghost use Rattle.ov_specs.specs.machine.Machine.{Sent};
-ghost use Rattle.ov_outbox.specs.Frames.{places_for, HasSameFrames, PostsFrame, PostsSent, posted, count_of, TakesPlaces};
+ghost use Rattle.ov_outbox.specs.Frames.{places_for, HasSameFrames, PostsFrame, PostsSent, posted};
+ghost use Rattle.ov_outbox.specs.Frames.{count_of, TakesPlaces};
 
 use crate::frames::FrameQueues;
 use ov_base::Bytes;
@@ -41,9 +42,12 @@ impl Prepared {
         session: u64,
         frame: Bytes,
     ) -> bool
-        ensures prepared { MatchBool result (self.new ≡ self.old ++ (session, frame) ∷ []) (self.new ≡ self.old) }
+        ensures prepared { MatchBool result (self.new ≡ self.old ++ (session, frame) ∷ []) (self.new
+            ≡ self.old) }
         ensures frames { HasSameFrames queues.old queues.new }
-        ensures places { (other base : ℕ) → places_for other queues.old ≡ base + count_of other self.old → places_for other queues.new ≡ base + count_of other self.new }
+        ensures places { (other base : ℕ) → places_for other queues.old
+            ≡ base + count_of other self.old
+            → places_for other queues.new ≡ base + count_of other self.new }
     {
         if !queues.keep_place(alloc, session) {
             return false;
@@ -58,7 +62,8 @@ impl Prepared {
     /// Sends all frames, in order. Allocates nothing.
     pub fn release(self, queues: &mut FrameQueues)
         requires { (other : ℕ) → count_of other self ≤ places_for other queues.old }
-        ensures posts { (sent : List Sent) → self ≡ map posted sent → PostsSent sent queues.old queues.new }
+        ensures posts { (sent : List Sent) → self ≡ map posted sent
+            → PostsSent sent queues.old queues.new }
         ensures places { TakesPlaces self queues.old queues.new }
     {
         let mut frames = self.frames;
@@ -70,7 +75,9 @@ impl Prepared {
     /// Sends this frame in place of the last one, and gives up the others. Allocates nothing.
     pub fn release_instead(self, queues: &mut FrameQueues, frame: Bytes)
         requires { (other : ℕ) → count_of other self ≤ places_for other queues.old }
-        ensures posts { (front : List (ℕ × List ℕ)) (session : ℕ) (former : List ℕ) → self ≡ front ++ (session, former) ∷ [] → PostsFrame session frame queues.old queues.new }
+        ensures posts { (front : List (ℕ × List ℕ)) (session : ℕ) (former : List ℕ) → self
+            ≡ front ++ (session, former) ∷ []
+            → PostsFrame session frame queues.old queues.new }
         ensures places { TakesPlaces self queues.old queues.new }
     {
         let mut frames = self.frames;

@@ -18,7 +18,8 @@ use serde_json::Value;
 use std::alloc::{AllocError, Global};
 
 fn each_text(alloc: Global, items: &[Value]) -> Result<Option<Vec<Text>>, AllocError>
-    ensures { IfOk result (λ o. option_map (λ v. v.items) o ≡ each_read as_str (items_view items.now)) }
+    ensures { IfOk result (λ o. option_map (λ v. v.items) o
+        ≡ each_read as_str (items_view items.now)) }
 {
     let mut texts = Vec::new(alloc);
     for item in items {
@@ -88,7 +89,8 @@ fn all_columns(alloc: Global, table: &Table) -> Result<Vec<Text>, AllocError>
 
 /// The columns of the table but `_uuid` and `_version`, in ascending order.
 fn other_columns(alloc: Global, table: &Table) -> Result<Vec<Text>, AllocError>
-    ensures { IfOk result (λ v. v.items ≡ filter (λ name. not (is_own_column name)) (keys table.now.columns)) }
+    ensures { IfOk result (λ v. v.items
+        ≡ filter (λ name. not (is_own_column name)) (keys table.now.columns)) }
 {
     let mut names = Vec::new(alloc);
     for (name, _column) in table.columns() {
@@ -101,7 +103,8 @@ fn other_columns(alloc: Global, table: &Table) -> Result<Vec<Text>, AllocError>
 
 /// The columns that an array names, in ascending order (RFC 7047, 5.2.2).
 pub fn listed_columns(alloc: Global, table: &Table, columns: &Value) -> Result<Vec<Text>, OpFault>
-    ensures { IsOpResult (λ v. v.items) (spec.listed_columns table.now (list_read as_str (view columns.now))) result }
+    ensures { IsOpResult (λ v. v.items)
+        (spec.listed_columns table.now (list_read as_str (view columns.now))) result }
 {
     let Some(names) = texts_of(alloc, columns)? else {
         return Err(OpFault::Refused(OpError::Syntax));
@@ -118,7 +121,8 @@ pub fn chosen_columns(
     table: &Table,
     columns: Option<&Value>,
 ) -> Result<Vec<Text>, OpFault>
-    ensures { IsOpResult (λ v. v.items) (spec.selected_columns table.now (option_map view (option_copied columns.entry))) result }
+    ensures { IsOpResult (λ v. v.items)
+        (spec.selected_columns table.now (option_map view (option_copied columns.entry))) result }
 {
     match columns {
         Some(columns) => listed_columns(alloc, table, columns),
@@ -132,7 +136,8 @@ pub fn compared_columns(
     table: &Table,
     columns: Option<&Value>,
 ) -> Result<Vec<Text>, OpFault>
-    ensures { IsOpResult (λ v. v.items) (compared_columns table.now (option_map view (option_copied columns.entry))) result }
+    ensures { IsOpResult (λ v. v.items)
+        (compared_columns table.now (option_map view (option_copied columns.entry))) result }
 {
     match columns {
         Some(columns) => listed_columns(alloc, table, columns),

@@ -48,7 +48,8 @@ fn one_uuid(id: Uuid) -> Datum
 
 /// The value of a row's column, including `_uuid` and `_version` (RFC 7047, 3.2).
 fn column_of(alloc: Global, row: &RowView<'_>, name: &str) -> Result<Option<Datum>, AllocError>
-    ensures { IfOk result (λ o. o ≡ column_value row.now.id.now row.now.row.now.version row.now.row.now.columns name.now) }
+    ensures { IfOk result (λ o. o
+        ≡ column_value row.now.id.now row.now.row.now.version row.now.row.now.columns name.now) }
 {
     let stored = row.row;
     if name == "_uuid" {
@@ -66,7 +67,8 @@ fn column_of(alloc: Global, row: &RowView<'_>, name: &str) -> Result<Option<Datu
 impl ShownRow {
     /// These columns of a row, with their names (RFC 7047, 5.2.2).
     pub fn of(alloc: Global, names: &[Text], row: &RowView<'_>) -> Result<ShownRow, AllocError>
-        ensures { (table : List ℕ) → IfOk result (λ r. r ≡ spec.projection names.now (lent_row_of table row.now)) }
+        ensures { (table : List ℕ)
+            → IfOk result (λ r. r ≡ spec.projection names.now (lent_row_of table row.now)) }
     {
         let mut columns = Vec::with_capacity(alloc, names.len())?;
         for name in names {
@@ -98,7 +100,9 @@ impl ShownRow {
 
 /// These columns of a row as they are shown (RFC 7047, 5.1, `<row>`, and 5.2.2). No value of the row is copied first.
 pub fn shown_tree(alloc: Global, names: &[Text], row: &RowView<'_>) -> Result<Tree, AllocError>
-    ensures { (table : List ℕ) → IfOk result (λ t. t ≡ spec.written_row (spec.projection names.now (lent_row_of table row.now))) }
+    ensures { (table : List ℕ)
+        → IfOk result (λ t. t
+        ≡ spec.written_row (spec.projection names.now (lent_row_of table row.now))) }
 {
     let mut members = Map::new(alloc);
     for name in names {
@@ -114,8 +118,11 @@ fn put_shown(
     name: &str,
     row: &RowView<'_>,
 ) -> Result<(), AllocError>
-    ensures put { OnOk result (members_view members.new.entries ≡ placed (members_view members.old.entries) (map written_column (shown_column (lent_row_of [] row.now) name.now))) }
-    ensures plain { members_have_real (members_view members.old.entries) ≡ false → OnOk result (members_have_real (members_view members.new.entries) ≡ false) }
+    ensures put { OnOk result (members_view members.new.entries
+        ≡ placed (members_view members.old.entries)
+        (map written_column (shown_column (lent_row_of [] row.now) name.now))) }
+    ensures plain { members_have_real (members_view members.old.entries) ≡ false
+        → OnOk result (members_have_real (members_view members.new.entries) ≡ false) }
 {
     let stored = row.row;
     if name == "_uuid" {
@@ -137,7 +144,8 @@ fn put_column(
     name: &str,
     datum: &Datum,
 ) -> Result<(), AllocError>
-    ensures put { OnOk result (members_view members.new.entries ≡ put name.now (tree datum.now) (members_view members.old.entries)) }
+    ensures put { OnOk result (members_view members.new.entries
+        ≡ put name.now (tree datum.now) (members_view members.old.entries)) }
     ensures plain { OnOk result (has_real (tree datum.now) ≡ false) }
 {
     members.insert(String::from_str(alloc, name)?, write_datum(alloc, datum)?)?;

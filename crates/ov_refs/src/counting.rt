@@ -25,7 +25,8 @@ fn count_atom(refers: &Reference, atom: &Atom, to: &RowKey) -> u64
 
 /// How many strong references to the row these atoms are.
 fn count_atoms(refers: &Reference, atoms: &[Atom], to: &RowKey) -> u64
-    ensures { result ≡ in_64_bits (hits to.now (flat_map (one_target refers.now) (atoms_view atoms.now))) }
+    ensures { result
+        ≡ in_64_bits (hits to.now (flat_map (one_target refers.now) (atoms_view atoms.now))) }
 {
     let mut count: u64 = 0;
     for atom in atoms {
@@ -36,7 +37,10 @@ fn count_atoms(refers: &Reference, atoms: &[Atom], to: &RowKey) -> u64
 
 /// How many strong references to the row the keys of pairs are.
 fn count_keys(refers: &Reference, pairs: &[(Atom, Atom)], to: &RowKey) -> u64
-    ensures { result ≡ in_64_bits (hits to.now (flat_map (one_target refers.now) (map (λ p. p.0) (pairs_view pairs.now)))) }
+    ensures { result
+        ≡ in_64_bits
+        (hits to.now
+        (flat_map (one_target refers.now) (map (λ p. p.0) (pairs_view pairs.now)))) }
 {
     let mut count: u64 = 0;
     for pair in pairs {
@@ -47,7 +51,10 @@ fn count_keys(refers: &Reference, pairs: &[(Atom, Atom)], to: &RowKey) -> u64
 
 /// How many strong references to the row the values of pairs are.
 fn count_values(refers: &Reference, pairs: &[(Atom, Atom)], to: &RowKey) -> u64
-    ensures { result ≡ in_64_bits (hits to.now (flat_map (one_target refers.now) (map (λ p. p.1) (pairs_view pairs.now)))) }
+    ensures { result
+        ≡ in_64_bits
+        (hits to.now
+        (flat_map (one_target refers.now) (map (λ p. p.1) (pairs_view pairs.now)))) }
 {
     let mut count: u64 = 0;
     for pair in pairs {
@@ -58,7 +65,8 @@ fn count_values(refers: &Reference, pairs: &[(Atom, Atom)], to: &RowKey) -> u64
 
 /// How many strong references to the row the atoms of a set, or the keys of a map, are.
 fn count_key_atoms(refers: &Reference, datum: &Datum, to: &RowKey) -> u64
-    ensures { result ≡ in_64_bits (hits to.now (flat_map (one_target refers.now) (key_atoms datum.now))) }
+    ensures { result
+        ≡ in_64_bits (hits to.now (flat_map (one_target refers.now) (key_atoms datum.now))) }
 {
     if let Some(atoms) = datum.atoms() {
         return count_atoms(refers, atoms, to);
@@ -71,7 +79,8 @@ fn count_key_atoms(refers: &Reference, datum: &Datum, to: &RowKey) -> u64
 
 /// How many strong references to the row the values of a map are.
 fn count_value_atoms(refers: &Reference, datum: &Datum, to: &RowKey) -> u64
-    ensures { result ≡ in_64_bits (hits to.now (flat_map (one_target refers.now) (value_atoms datum.now))) }
+    ensures { result
+        ≡ in_64_bits (hits to.now (flat_map (one_target refers.now) (value_atoms datum.now))) }
 {
     match datum.pairs() {
         Some(pairs) => count_values(refers, pairs, to),
@@ -81,7 +90,9 @@ fn count_value_atoms(refers: &Reference, datum: &Datum, to: &RowKey) -> u64
 
 /// How many strong references to the row the atoms of a set, or the keys of a map, are, if their type has a table to refer to.
 fn count_by_key(column: &Column, datum: &Datum, to: &RowKey) -> u64
-    ensures { result ≡ in_64_bits (hits to.now (all_targets column.now.type_of.key.refers (key_atoms datum.now))) }
+    ensures { result
+        ≡ in_64_bits
+        (hits to.now (all_targets column.now.type_of.key.refers (key_atoms datum.now))) }
 {
     match column.key_refers() {
         Some(refers) => count_key_atoms(refers, datum, to),
@@ -91,7 +102,11 @@ fn count_by_key(column: &Column, datum: &Datum, to: &RowKey) -> u64
 
 /// How many strong references to the row the values of a map are, if their type has a table to refer to.
 fn count_by_value(column: &Column, datum: &Datum, to: &RowKey) -> u64
-    ensures { result ≡ in_64_bits (hits to.now (all_targets (option_and_then (λ b. b.refers) column.now.type_of.value) (value_atoms datum.now))) }
+    ensures { result
+        ≡ in_64_bits
+        (hits to.now
+        (all_targets (option_and_then (λ b. b.refers) column.now.type_of.value)
+        (value_atoms datum.now))) }
 {
     match column.value_refers() {
         Some(refers) => count_value_atoms(refers, datum, to),
@@ -109,7 +124,8 @@ fn count_datum(column: &Column, datum: &Datum, to: &RowKey) -> u64
 /// How many strong references to the row the value of the column of this name, at this place of a row, has, if there is such
 /// a column.
 fn count_column(table: &Table, place: usize, name: &str, datum: &Datum, to: &RowKey) -> u64
-    ensures { result ≡ in_64_bits (hits to.now (column_targets (get table.now.columns name.now) datum.now)) }
+    ensures { result
+        ≡ in_64_bits (hits to.now (column_targets (get table.now.columns name.now) datum.now)) }
 {
     match table.column_near(place, name) {
         Some(column) => count_datum(column, datum, to),
@@ -146,7 +162,8 @@ fn count_row(schema: &Schema, rows: &Rows, from: &RowKey, to: &RowKey) -> u64
 
 /// How many strong references to the row these rows have, without its own.
 pub(crate) fn count_holders(schema: &Schema, rows: &Rows, holders: &KeySet, to: &RowKey) -> u64
-    ensures { result ≡ in_64_bits (sum_by (hits_beside schema.now rows.now to.now) (keys holders.now)) }
+    ensures { result
+        ≡ in_64_bits (sum_by (hits_beside schema.now rows.now to.now) (keys holders.now)) }
 {
     let mut count: u64 = 0;
     for from in holders.iter() {

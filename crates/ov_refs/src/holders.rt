@@ -94,7 +94,8 @@ impl Holders {
     /// it.
     fn take_from(&mut self, to: &RowKey, from: &RowKey) -> bool
         ensures fewer { self.new ≡ with_fewer to.now from.now self.old }
-        ensures none { result ≡ is_some_and (λ set. len (remove set from.now) == 0) (get self.old to.now) }
+        ensures none { result
+            ≡ is_some_and (λ set. len (remove set from.now) == 0) (get self.old to.now) }
     {
         match self.of.get_mut(to) {
             Some(set) => {

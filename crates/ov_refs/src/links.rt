@@ -3,7 +3,8 @@ ghost use Rattle.std.specs.FinMap.{get, entries};
 ghost use Rattle.ov_specs.specs.integrity.References.{targets_in};
 ghost use Rattle.ov_specs.specs.rows.Database.{Database};
 ghost use Rattle.ov_specs.specs.rows.Changed.{IsAfter};
-ghost use Rattle.ov_refs.specs.Linking.{AreLinksOf, AreNone, with_rows, with_target, with_targets, without_reference, without_references};
+ghost use Rattle.ov_refs.specs.Linking.{AreLinksOf, AreNone, with_rows, with_target, with_targets};
+ghost use Rattle.ov_refs.specs.Linking.{without_reference, without_references};
 ghost use Rattle.ov_refs.specs.Counting.{in_64_bits, strong_count};
 ghost use Rattle.ov_refs.specs.Placed.{Adds, AreAlike, lost, refers, targets_at};
 ghost use Rattle.ov_rows.specs.Nested.{in_table};
@@ -108,7 +109,9 @@ impl Links {
         key: &RowKey,
         columns: &Columns,
     ) -> Result<(), AllocError>
-        ensures { OnOk result (self.new ≡ with_targets key.now (targets_in (get schema.now.tables key.now.0) columns.now) self.old) }
+        ensures { OnOk result (self.new
+            ≡ with_targets key.now (targets_in (get schema.now.tables key.now.0) columns.now)
+            self.old) }
     {
         for target in targets_of(alloc, schema, key.table(), columns)? {
             self.add_target(alloc, key, target)?;
@@ -124,7 +127,8 @@ impl Links {
         name: &str,
         rows: &TableRows,
     ) -> Result<(), AllocError>
-        ensures { OnOk result (self.new ≡ with_rows schema.now (in_table name.now (entries rows.now)) self.old) }
+        ensures { OnOk result (self.new
+            ≡ with_rows schema.now (in_table name.now (entries rows.now)) self.old) }
     {
         for (id, row) in rows.map() {
             let key = RowKey::new(alloc, name, *id.as_uuid())?;
@@ -152,7 +156,8 @@ impl Links {
         to: &Target,
         added: &mut Vec<RowReference>,
     ) -> Result<(), AllocError>
-        ensures back { AreAlike (without_references added.new.items self.new) (without_references added.old.items self.old) }
+        ensures back { AreAlike (without_references added.new.items self.new)
+            (without_references added.old.items self.old) }
         ensures adds { OnOk result (Adds from.now (to.now ∷ []) self.old self.new) }
     {
         if self.has(from, to) {
@@ -173,7 +178,8 @@ impl Links {
         targets: &[Target],
         added: &mut Vec<RowReference>,
     ) -> Result<(), AllocError>
-        ensures back { AreAlike (without_references added.new.items self.new) (without_references added.old.items self.old) }
+        ensures back { AreAlike (without_references added.new.items self.new)
+            (without_references added.old.items self.old) }
         ensures adds { OnOk result (Adds from.now targets.now self.old self.new) }
     {
         for target in targets {
@@ -193,9 +199,14 @@ impl Links {
         change: &Option<Row>,
         room: &mut LinkChanges,
     ) -> Result<(), AllocError>
-        ensures back { AreAlike (without_references room.new.added.items self.new) (without_references room.old.added.items self.old) }
-        ensures adds { OnOk result (Adds key.now (targets_at schema.now key.now change.now) self.old self.new) }
-        ensures gone { OnOk result (room.new.gone.items ≡ room.old.gone.items ++ lost key.now (targets_at schema.now key.now (get rows.now key.now)) (targets_at schema.now key.now change.now)) }
+        ensures back { AreAlike (without_references room.new.added.items self.new)
+            (without_references room.old.added.items self.old) }
+        ensures adds { OnOk result
+            (Adds key.now (targets_at schema.now key.now change.now) self.old self.new) }
+        ensures gone { OnOk result (room.new.gone.items
+            ≡ room.old.gone.items ++ lost key.now
+            (targets_at schema.now key.now (get rows.now key.now))
+            (targets_at schema.now key.now change.now)) }
     {
         let before = targets_at(alloc, schema, key, rows.row(key.table(), key.id()))?;
         let after = targets_at(alloc, schema, key, change.as_ref())?;
@@ -219,8 +230,10 @@ impl Links {
     ) -> Result<(), AllocError>
         requires linked { AreLinksOf schema.now rows.now self.old }
         requires none { (room.old.added.items ≡ []) × (room.old.gone.items ≡ []) }
-        ensures back { AreLinksOf schema.now rows.now (without_references room.new.added.items self.new) }
-        ensures on { OnOk result ((after : Database) → IsAfter changes.now.entries rows.now after → AreLinksOf schema.now after (without_references room.new.gone.items self.new)) }
+        ensures back { AreLinksOf schema.now rows.now
+            (without_references room.new.added.items self.new) }
+        ensures on { OnOk result ((after : Database) → IsAfter changes.now.entries rows.now after
+            → AreLinksOf schema.now after (without_references room.new.gone.items self.new)) }
     {
         for (key, change) in changes {
             self.place_change(alloc, schema, rows, key, change, room)?;

@@ -20,7 +20,9 @@ pub(crate) struct TargetSet {
 impl TargetSet {
     /// The empty set.
     fn new() -> TargetSet
-        ensures { (strong : Bool) (to : LineKey) → contains_key (if strong then result.strong else result.weak) to ≡ false }
+        ensures { (strong : Bool) (to : LineKey)
+            → contains_key (if strong then result.strong else result.weak) to
+            ≡ false }
     {
         TargetSet {
             strong: KeySet::new(),
@@ -30,7 +32,10 @@ impl TargetSet {
 
     /// Adds the target, unless it is there.
     fn insert(&mut self, alloc: Global, target: Target) -> Result<(), AllocError>
-        ensures { OnOk result ((strong : Bool) (to : LineKey) → contains_key (if strong then self.new.strong else self.new.weak) to ≡ (contains_key (if strong then self.old.strong else self.old.weak) to || is_target strong to target)) }
+        ensures { OnOk result ((strong : Bool) (to : LineKey)
+            → contains_key (if strong then self.new.strong else self.new.weak) to
+            ≡ (contains_key (if strong then self.old.strong else self.old.weak) to || is_target
+            strong to target)) }
     {
         if target.is_strong {
             self.strong.insert(alloc, target.key)
@@ -41,7 +46,9 @@ impl TargetSet {
 
     /// The targets of the list.
     pub(crate) fn of(alloc: Global, targets: Vec<Target>) -> Result<TargetSet, AllocError>
-        ensures { IfOk result (λ set. (strong : Bool) (to : LineKey) → contains_key (if strong then set.strong else set.weak) to ≡ has_target strong to targets.items) }
+        ensures { IfOk result (λ set. (strong : Bool) (to : LineKey)
+            → contains_key (if strong then set.strong else set.weak) to
+            ≡ has_target strong to targets.items) }
     {
         let mut set = TargetSet::new();
         for target in targets {
@@ -52,7 +59,9 @@ impl TargetSet {
 
     /// Whether the set has the target.
     fn contains(&self, target: &Target) -> bool
-        ensures { result ≡ contains_key (if target.now.is_strong then self.now.strong else self.now.weak) target.now.key }
+        ensures { result
+            ≡ contains_key (if target.now.is_strong then self.now.strong else self.now.weak)
+            target.now.key }
     {
         if target.is_strong {
             self.strong.contains(&target.key)
@@ -69,7 +78,8 @@ impl TargetSet {
         target: Target,
         gone: &mut Vec<RowReference>,
     ) -> Result<(), AllocError>
-        ensures { OnOk result (gone.new.items ≡ gone.old.items ++ lost_one from.now self.now.strong self.now.weak target) }
+        ensures { OnOk result (gone.new.items
+            ≡ gone.old.items ++ lost_one from.now self.now.strong self.now.weak target) }
     {
         if !self.contains(&target) {
             gone.push(RowReference::new(alloc, from, target)?)?;
@@ -85,7 +95,9 @@ impl TargetSet {
         targets: Vec<Target>,
         gone: &mut Vec<RowReference>,
     ) -> Result<(), AllocError>
-        ensures { OnOk result (gone.new.items ≡ gone.old.items ++ flat_map (lost_one from.now self.now.strong self.now.weak) targets.items) }
+        ensures { OnOk result (gone.new.items
+            ≡ gone.old.items ++ flat_map (lost_one from.now self.now.strong self.now.weak)
+            targets.items) }
     {
         for target in targets {
             self.push_other(alloc, from, target, gone)?;

@@ -1,4 +1,5 @@
-ghost use Rattle.std.specs.Prelude.{◌≡◌, ◌++◌, map, option_and_then, option_copied, Some, IfOk, OnOk};
+ghost use Rattle.std.specs.Prelude.{◌≡◌, ◌++◌, map, option_and_then, option_copied, Some, IfOk};
+ghost use Rattle.std.specs.Prelude.{OnOk};
 ghost use Rattle.std.specs.List.{flat_map};
 ghost use Rattle.std.specs.FinMap.{get};
 ghost use Rattle.ov_atoms.specs.Views.{atom_view, atoms_view, pairs_view};
@@ -19,7 +20,8 @@ fn push_target(
     refers: &Reference,
     atom: &Atom,
 ) -> Result<(), AllocError>
-    ensures { OnOk result (targets.new.items ≡ targets.old.items ++ one_target refers.now (atom_view atom.now)) }
+    ensures { OnOk result (targets.new.items
+        ≡ targets.old.items ++ one_target refers.now (atom_view atom.now)) }
 {
     if let Atom::Uuid(id) = atom {
         targets.push(Target {
@@ -36,7 +38,8 @@ fn push_atoms(
     refers: &Reference,
     atoms: &[Atom],
 ) -> Result<(), AllocError>
-    ensures { OnOk result (targets.new.items ≡ targets.old.items ++ flat_map (one_target refers.now) (atoms_view atoms.now)) }
+    ensures { OnOk result (targets.new.items
+        ≡ targets.old.items ++ flat_map (one_target refers.now) (atoms_view atoms.now)) }
 {
     for atom in atoms {
         push_target(alloc, targets, refers, atom)?;
@@ -51,7 +54,9 @@ fn push_keys(
     refers: &Reference,
     pairs: &[(Atom, Atom)],
 ) -> Result<(), AllocError>
-    ensures { OnOk result (targets.new.items ≡ targets.old.items ++ flat_map (one_target refers.now) (map (λ p. p.0) (pairs_view pairs.now))) }
+    ensures { OnOk result (targets.new.items
+        ≡ targets.old.items ++ flat_map (one_target refers.now)
+        (map (λ p. p.0) (pairs_view pairs.now))) }
 {
     for pair in pairs {
         push_target(alloc, targets, refers, &pair.0)?;
@@ -66,7 +71,9 @@ fn push_values(
     refers: &Reference,
     pairs: &[(Atom, Atom)],
 ) -> Result<(), AllocError>
-    ensures { OnOk result (targets.new.items ≡ targets.old.items ++ flat_map (one_target refers.now) (map (λ p. p.1) (pairs_view pairs.now))) }
+    ensures { OnOk result (targets.new.items
+        ≡ targets.old.items ++ flat_map (one_target refers.now)
+        (map (λ p. p.1) (pairs_view pairs.now))) }
 {
     for pair in pairs {
         push_target(alloc, targets, refers, &pair.1)?;
@@ -81,7 +88,8 @@ fn push_key_atoms(
     refers: &Reference,
     datum: &Datum,
 ) -> Result<(), AllocError>
-    ensures { OnOk result (targets.new.items ≡ targets.old.items ++ flat_map (one_target refers.now) (key_atoms datum.now)) }
+    ensures { OnOk result (targets.new.items
+        ≡ targets.old.items ++ flat_map (one_target refers.now) (key_atoms datum.now)) }
 {
     if let Some(atoms) = datum.atoms() {
         return push_atoms(alloc, targets, refers, atoms);
@@ -99,7 +107,8 @@ fn push_value_atoms(
     refers: &Reference,
     datum: &Datum,
 ) -> Result<(), AllocError>
-    ensures { OnOk result (targets.new.items ≡ targets.old.items ++ flat_map (one_target refers.now) (value_atoms datum.now)) }
+    ensures { OnOk result (targets.new.items
+        ≡ targets.old.items ++ flat_map (one_target refers.now) (value_atoms datum.now)) }
 {
     match datum.pairs() {
         Some(pairs) => push_values(alloc, targets, refers, pairs),
@@ -114,7 +123,8 @@ fn push_by_key(
     column: &Column,
     datum: &Datum,
 ) -> Result<(), AllocError>
-    ensures { OnOk result (targets.new.items ≡ targets.old.items ++ all_targets column.now.type_of.key.refers (key_atoms datum.now)) }
+    ensures { OnOk result (targets.new.items
+        ≡ targets.old.items ++ all_targets column.now.type_of.key.refers (key_atoms datum.now)) }
 {
     match column.key_refers() {
         Some(refers) => push_key_atoms(alloc, targets, refers, datum),
@@ -129,7 +139,9 @@ fn push_by_value(
     column: &Column,
     datum: &Datum,
 ) -> Result<(), AllocError>
-    ensures { OnOk result (targets.new.items ≡ targets.old.items ++ all_targets (option_and_then (λ b. b.refers) column.now.type_of.value) (value_atoms datum.now)) }
+    ensures { OnOk result (targets.new.items
+        ≡ targets.old.items ++ all_targets
+        (option_and_then (λ b. b.refers) column.now.type_of.value) (value_atoms datum.now)) }
 {
     match column.value_refers() {
         Some(refers) => push_value_atoms(alloc, targets, refers, datum),
@@ -144,7 +156,8 @@ fn push_datum(
     column: &Column,
     datum: &Datum,
 ) -> Result<(), AllocError>
-    ensures { OnOk result (targets.new.items ≡ targets.old.items ++ datum_targets column.now.type_of datum.now) }
+    ensures { OnOk result (targets.new.items
+        ≡ targets.old.items ++ datum_targets column.now.type_of datum.now) }
 {
     push_by_key(alloc, targets, column, datum)?;
     push_by_value(alloc, targets, column, datum)
@@ -159,7 +172,8 @@ fn push_column(
     name: &str,
     datum: &Datum,
 ) -> Result<(), AllocError>
-    ensures { OnOk result (targets.new.items ≡ targets.old.items ++ column_targets (get table.now.columns name.now) datum.now) }
+    ensures { OnOk result (targets.new.items
+        ≡ targets.old.items ++ column_targets (get table.now.columns name.now) datum.now) }
 {
     match table.column_near(place, name) {
         Some(column) => push_datum(alloc, targets, column, datum),
@@ -189,7 +203,8 @@ pub fn targets_of(
     table: &str,
     columns: &Columns,
 ) -> Result<Vec<Target>, AllocError>
-    ensures { IfOk result (λ targets. targets.items ≡ targets_in (get schema.now.tables table.now) columns.now) }
+    ensures { IfOk result (λ targets. targets.items
+        ≡ targets_in (get schema.now.tables table.now) columns.now) }
 {
     match schema.table(table) {
         Some(table) => targets_in(alloc, table, columns),
@@ -204,7 +219,8 @@ pub(crate) fn targets_at(
     key: &RowKey,
     row: Option<&Row>,
 ) -> Result<Vec<Target>, AllocError>
-    ensures { IfOk result (λ targets. targets.items ≡ targets_at schema.now key.now (option_copied row.entry)) }
+    ensures { IfOk result (λ targets. targets.items
+        ≡ targets_at schema.now key.now (option_copied row.entry)) }
 {
     match row {
         Some(row) => targets_of(alloc, schema, key.table(), &row.columns),

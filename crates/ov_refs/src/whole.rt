@@ -32,7 +32,9 @@ fn are_there(rows: &Rows, holders: &Holders) -> bool
 
 /// Whether each row that is referred to, strongly or weakly, exists.
 fn are_all_there(rows: &Rows, links: &Links) -> bool
-    ensures { result ≡ (list_all (spec.is_there rows.now) (entries links.now.strong) && list_all (spec.is_there rows.now) (entries links.now.weak)) }
+    ensures { result
+        ≡ (list_all (spec.is_there rows.now) (entries links.now.strong) && list_all
+        (spec.is_there rows.now) (entries links.now.weak)) }
 {
     are_there(rows, links.strong()) && are_there(rows, links.weak())
 }
@@ -69,7 +71,10 @@ fn is_table_supported(
     rows: &TableRows,
     holders: &mut Iter<'_, RowKey, KeySet>,
 ) -> bool
-    ensures { (rest : List (LineKey × Row)) → spec.are_supported schema.now (in_table name.now (entries rows.now) ++ rest) holders.old ≡ (result && spec.are_supported schema.now rest holders.new) }
+    ensures { (rest : List (LineKey × Row))
+        → spec.are_supported schema.now (in_table name.now (entries rows.now) ++ rest)
+        holders.old
+        ≡ (result && spec.are_supported schema.now rest holders.new) }
 {
     if is_root_table(schema, name) {
         return true;
@@ -101,7 +106,9 @@ fn are_supported(schema: &Schema, rows: &Rows, strong: &Holders) -> bool
 /// nothing.
 pub fn are_references_whole(schema: &Schema, rows: &Rows, links: &Links) -> bool
     requires linked { AreLinksOf schema.now rows.now links.now }
-    ensures { result ≡ (list_all (λ r. contains_key rows.now r.to.key) (references schema.now rows.now) && list_all (λ r. is_supported schema.now rows.now r.0) (entries rows.now)) }
+    ensures { result
+        ≡ (list_all (λ r. contains_key rows.now r.to.key) (references schema.now rows.now) &&
+        list_all (λ r. is_supported schema.now rows.now r.0) (entries rows.now)) }
 {
     are_all_there(rows, links) && are_supported(schema, rows, links.strong())
 }

@@ -5,7 +5,10 @@ ghost use Rattle.serde_json.specs.View.{view};
 ghost use Rattle.ov_locks.specs.Calls.{lock_call_view};
 ghost use Rattle.ov_specs.specs.wire.Frame.{frame, failure_tree, reply_tree};
 ghost use Rattle.ov_specs.specs.wire.Method.{database_names, bad_text};
-ghost use Rattle.ov_specs.specs.machine.Machine.{State, work_of, call_of, notification_of, cancel_notification, transact_call, transact_work, schema_call, schema_call_on, lock_call, monitor_call, monitor_cancel_call};
+ghost use Rattle.ov_specs.specs.machine.Machine.{State, work_of, call_of, notification_of};
+ghost use Rattle.ov_specs.specs.machine.Machine.{cancel_notification, transact_call, transact_work};
+ghost use Rattle.ov_specs.specs.machine.Machine.{schema_call, schema_call_on, lock_call};
+ghost use Rattle.ov_specs.specs.machine.Machine.{monitor_call, monitor_cancel_call};
 ghost use Rattle.ov_specs.specs.wire.Message as rpc;
 ghost use Rattle.ov_rpc.specs.Incoming.{StandsFor, is_echo};
 ghost use Rattle.ov_rpc.specs.Message.{message_view, bad_kind_view};
@@ -102,7 +105,8 @@ fn only_tree(trees: Trees) -> Option<Tree>
 
 /// The three trees in order, not copied; `None` unless there are exactly three.
 fn three_trees(trees: Trees) -> Option<(Tree, Tree, Tree)>
-    ensures { MatchOption result (are_three trees ≡ false) (λ t. trees ≡ item t.0 (item t.1 (item t.2 no_items))) }
+    ensures { MatchOption result (are_three trees ≡ false) (λ t. trees
+        ≡ item t.0 (item t.1 (item t.2 no_items))) }
 {
     let Value::Array(mut items) = trees.into_tree().into_value() else {
         unreachable!()
@@ -125,7 +129,8 @@ fn transact_work(
     id: Tree,
     operations: Trees,
 ) -> Result<Work, AllocError>
-    ensures { IfOk result (λ w. (s : State) → s.outstanding ≡ waiting.now.outstanding → IsWork s session (transact_work s session id operations) w) }
+    ensures { IfOk result (λ w. (s : State) → s.outstanding ≡ waiting.now.outstanding
+        → IsWork s session (transact_work s session id operations) w) }
 {
     if waiting.len() == 0 {
         return Ok(Work::Transact(id, operations));
@@ -149,7 +154,9 @@ fn transact_call(
     id: Tree,
     params: Trees,
 ) -> Result<Work, AllocError>
-    ensures { IfOk result (λ w. (s : State) → s.schema.name ≡ name.now → s.outstanding ≡ waiting.now.outstanding → IsWork s session (transact_call s session id params) w) }
+    ensures { IfOk result (λ w. (s : State) → s.schema.name ≡ name.now
+        → s.outstanding ≡ waiting.now.outstanding
+        → IsWork s session (transact_call s session id params) w) }
 {
     let Some((first, operations)) = split_first(params) else {
         return refused_work(alloc, id, "syntax error");
@@ -168,7 +175,8 @@ fn transact_call(
 
 /// The schema, if its database is named.
 fn schema_named(alloc: Global, schema: &Schema, id: Tree, name: &str) -> Result<Work, AllocError>
-    ensures { IfOk result (λ w. (s : State) (session : ℕ) → s.schema ≡ schema.now → IsWork s session (schema_call_on s id (Some name.now)) w) }
+    ensures { IfOk result (λ w. (s : State) (session : ℕ) → s.schema ≡ schema.now
+        → IsWork s session (schema_call_on s id (Some name.now)) w) }
 {
     if name != schema.name().as_str() {
         return refused_work(alloc, id, "unknown database");
@@ -178,7 +186,8 @@ fn schema_named(alloc: Global, schema: &Schema, id: Tree, name: &str) -> Result<
 
 /// What a call of "get_schema" asks for: its only param is the database's name (RFC 7047, 4.1.2).
 fn schema_work(alloc: Global, schema: &Schema, id: Tree, params: &Trees) -> Result<Work, AllocError>
-    ensures { IfOk result (λ w. (s : State) (session : ℕ) → s.schema ≡ schema.now → IsWork s session (schema_call s id params.now) w) }
+    ensures { IfOk result (λ w. (s : State) (session : ℕ) → s.schema ≡ schema.now
+        → IsWork s session (schema_call s id params.now) w) }
 {
     let items = params.as_slice();
     if items.len() != 1 {
@@ -192,7 +201,8 @@ fn schema_work(alloc: Global, schema: &Schema, id: Tree, params: &Trees) -> Resu
 
 /// What a call on a lock asks for: its only param is the lock's name, an `<id>` (RFC 7047, 4.1.8).
 fn lock_work(alloc: Global, call: LockCall, id: Tree, params: Trees) -> Result<Work, AllocError>
-    ensures { IfOk result (λ w. (s : State) (session : ℕ) → IsWork s session (lock_call s session id (lock_call_view call) params) w) }
+    ensures { IfOk result (λ w. (s : State) (session : ℕ)
+        → IsWork s session (lock_call s session id (lock_call_view call) params) w) }
 {
     let Some(param) = only_tree(params) else {
         return refused_work(alloc, id, "syntax error");
@@ -206,7 +216,8 @@ fn lock_work(alloc: Global, call: LockCall, id: Tree, params: Trees) -> Result<W
 /// What a call of "monitor" asks for: its params are the database's name, the monitor's name, which may be any value, and an
 /// object of requests (RFC 7047, 4.1.5).
 fn monitor_work(alloc: Global, schema: &Schema, id: Tree, params: Trees) -> Result<Work, AllocError>
-    ensures { IfOk result (λ w. (s : State) (session : ℕ) → s.schema ≡ schema.now → IsWork s session (monitor_call s session id params) w) }
+    ensures { IfOk result (λ w. (s : State) (session : ℕ) → s.schema ≡ schema.now
+        → IsWork s session (monitor_call s session id params) w) }
 {
     let Some((database, name, requests)) = three_trees(params) else {
         return refused_work(alloc, id, "syntax error");
@@ -228,7 +239,8 @@ fn monitor_work(alloc: Global, schema: &Schema, id: Tree, params: Trees) -> Resu
 
 /// What a call of "monitor_cancel" asks for: its only param is the monitor's name (RFC 7047, 4.1.7).
 fn monitor_cancel_work(alloc: Global, id: Tree, params: Trees) -> Result<Work, AllocError>
-    ensures { IfOk result (λ w. (s : State) (session : ℕ) → IsWork s session (monitor_cancel_call s session id params) w) }
+    ensures { IfOk result (λ w. (s : State) (session : ℕ)
+        → IsWork s session (monitor_cancel_call s session id params) w) }
 {
     match only_tree(params) {
         Some(name) => Ok(Work::CancelMonitor(id, name)),
@@ -246,7 +258,10 @@ fn call_work(
     method: &str,
     params: Trees,
 ) -> Result<Work, AllocError>
-    ensures { bytes_eq method.now (codes "echo") ≡ false → IfOk result (λ w. (s : State) → s.schema ≡ schema.now → s.outstanding ≡ waiting.now.outstanding → IsWork s session (call_of s session id method.now params) w) }
+    ensures { bytes_eq method.now (codes "echo") ≡ false
+        → IfOk result (λ w. (s : State) → s.schema ≡ schema.now
+        → s.outstanding ≡ waiting.now.outstanding
+        → IsWork s session (call_of s session id method.now params) w) }
 {
     match method {
         "list_dbs" => answered_work(alloc, id, Tree::new(names_of(alloc, schema.name())?)),
@@ -263,7 +278,8 @@ fn call_work(
 
 /// What the only param of "cancel" asks for: to cancel the session's waiting transaction with this id, if there is one.
 fn cancel_work(alloc: Global, waiting: &Waiting, session: u64, id: Tree) -> Result<Work, AllocError>
-    ensures { IfOk result (λ w. (s : State) → s.outstanding ≡ waiting.now.outstanding → IsWork s session (cancel_notification s session (item id no_items)) w) }
+    ensures { IfOk result (λ w. (s : State) → s.outstanding ≡ waiting.now.outstanding
+        → IsWork s session (cancel_notification s session (item id no_items)) w) }
 {
     let text = id.to_bytes(alloc)?;
     if waiting.has_text(session, text.as_slice()) {
@@ -280,7 +296,8 @@ fn cancel_params(
     session: u64,
     params: Trees,
 ) -> Result<Work, AllocError>
-    ensures { IfOk result (λ w. (s : State) → s.outstanding ≡ waiting.now.outstanding → IsWork s session (cancel_notification s session params) w) }
+    ensures { IfOk result (λ w. (s : State) → s.outstanding ≡ waiting.now.outstanding
+        → IsWork s session (cancel_notification s session params) w) }
 {
     match only_tree(params) {
         Some(id) => cancel_work(alloc, waiting, session, id),
@@ -296,7 +313,8 @@ fn notification_work(
     method: &str,
     params: Trees,
 ) -> Result<Work, AllocError>
-    ensures { IfOk result (λ w. (s : State) → s.outstanding ≡ waiting.now.outstanding → IsWork s session (notification_of s session method.now params) w) }
+    ensures { IfOk result (λ w. (s : State) → s.outstanding ≡ waiting.now.outstanding
+        → IsWork s session (notification_of s session method.now params) w) }
 {
     if waiting.len() == 0 {
         return Ok(Work::Answer(None));
@@ -316,7 +334,10 @@ fn message_work(
     session: u64,
     message: Message,
 ) -> Result<Work, AllocError>
-    ensures { is_echo (message_view message) ≡ false → IfOk result (λ w. (s : State) → s.schema ≡ schema.now → s.outstanding ≡ waiting.now.outstanding → IsWork s session (work_of s session (message_view message)) w) }
+    ensures { is_echo (message_view message) ≡ false
+        → IfOk result (λ w. (s : State) → s.schema ≡ schema.now
+        → s.outstanding ≡ waiting.now.outstanding
+        → IsWork s session (work_of s session (message_view message)) w) }
 {
     match message {
         Message::Call { id, method, params } => {
@@ -339,7 +360,9 @@ pub fn work_of(
     session: u64,
     incoming: Incoming,
 ) -> Result<Work, AllocError>
-    ensures { IfOk result (λ w. (s : State) (message : rpc.Message) → StandsFor incoming message → s.schema ≡ schema.now → s.outstanding ≡ waiting.now.outstanding → IsWork s session (work_of s session message) w) }
+    ensures { IfOk result (λ w. (s : State) (message : rpc.Message) → StandsFor incoming message
+        → s.schema ≡ schema.now → s.outstanding ≡ waiting.now.outstanding
+        → IsWork s session (work_of s session message) w) }
 {
     match incoming {
         Incoming::Echo(frame) => Ok(Work::Answer(Some(frame))),

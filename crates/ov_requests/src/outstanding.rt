@@ -45,7 +45,15 @@ impl Outstanding {
         arrival: u64,
         timeout: Option<u64>,
     ) -> Result<Outstanding, AllocError>
-        ensures { IfOk result (λ o. o ≡ record { session = session; id = id; draws = txn.draws; operations = txn.operations; arrival = arrival; timeout = timeout }) }
+        ensures { IfOk result (λ o. o
+            ≡ record {
+              session = session;
+              id = id;
+              draws = txn.draws;
+              operations = txn.operations;
+              arrival = arrival;
+              timeout = timeout;
+            }) }
     {
         let text = id.to_bytes(alloc)?;
         Ok(Outstanding {

@@ -1,4 +1,5 @@
-ghost use Rattle.std.specs.Prelude.{◌≡◌, ◌++◌, ◌+◌, ◌<◌, ◌≤◌, ◌==◌, not, List, [], ◌∷◌, filter, length, IfOk, MatchBool, MatchOption};
+ghost use Rattle.std.specs.Prelude.{◌≡◌, ◌++◌, ◌+◌, ◌<◌, ◌≤◌, ◌==◌, not, List, [], ◌∷◌, filter};
+ghost use Rattle.std.specs.Prelude.{length, IfOk, MatchBool, MatchOption};
 ghost use Rattle.std.specs.List.{list_any, filter_map};
 ghost use Rattle.std.specs.VecDeque.{deque_len, deque_capacity};
 ghost use Rattle.ov_specs.specs.machine.Machine as machine;
@@ -86,28 +87,34 @@ impl Waiting {
     /// Appends a transaction. Allocates nothing.
     pub fn push(&mut self, outstanding: Outstanding)
         requires { many self.old < most_outstanding }
-        ensures { self.new ≡ record self.old { outstanding = self.old.outstanding ++ outstanding ∷ [] } }
+        ensures { self.new
+            ≡ record self.old { outstanding = self.old.outstanding ++ outstanding ∷ [] } }
     {
         self.outstanding.push_back_reserved(outstanding);
     }
 
     /// Removes the session's transaction whose id has this text.
     pub fn remove(&mut self, session: u64, text: &[u8])
-        ensures { self.new ≡ record self.old { outstanding = filter (λ o. not (has_text session text.now o)) self.old.outstanding } }
+        ensures { self.new
+            ≡ record self.old {
+              outstanding = filter (λ o. not (has_text session text.now o)) self.old.outstanding;
+            } }
     {
         keep_without(&mut self.outstanding, session, text);
     }
 
     /// Removes the session's transactions that are not still to be tried.
     pub fn leave(&mut self, session: u64)
-        ensures { self.new ≡ record self.old { outstanding = of_others session self.old.outstanding } }
+        ensures { self.new
+            ≡ record self.old { outstanding = of_others session self.old.outstanding } }
     {
         keep_others(&mut self.outstanding, session);
     }
 
     /// Begins a pass: all waiting transactions are to be tried.
     pub fn begin(&mut self)
-        ensures begins { self.new ≡ record { untried = self.old.outstanding; outstanding = self.old.untried } }
+        ensures begins { self.new
+            ≡ record { untried = self.old.outstanding; outstanding = self.old.untried } }
         ensures few { many self.new ≤ most_outstanding }
     {
         mem::swap(&mut self.untried, &mut self.outstanding);
@@ -117,7 +124,8 @@ impl Waiting {
     /// their sessions are open, and then all are to be tried.
     pub fn begin_again(&mut self, sessions: &Sessions)
         ensures { self.new ≡ record {
-          untried = self.old.outstanding ++ filter (λ o. has_serial o.session sessions.now.open_sessions) self.old.untried;
+          untried = self.old.outstanding ++ filter
+              (λ o. has_serial o.session sessions.now.open_sessions) self.old.untried;
           outstanding = [];
         } }
     {
@@ -135,22 +143,32 @@ impl Waiting {
 
     /// The next transaction to be tried.
     pub fn next(&self) -> Option<&Outstanding>
-        ensures { MatchOption result (self.now.untried ≡ []) (λ first. (rest : List machine.Outstanding) × (self.now.untried ≡ first.now ∷ rest)) }
+        ensures { MatchOption result (self.now.untried
+            ≡ []) (λ first. (rest : List machine.Outstanding)
+            × (self.now.untried ≡ first.now ∷ rest)) }
     {
         self.untried.front()
     }
 
     /// Removes the transaction that was to be tried next.
     pub fn drop_next(&mut self)
-        ensures { (first : machine.Outstanding) (rest : List machine.Outstanding) → self.old.untried ≡ first ∷ rest → self.new ≡ record self.old { untried = rest } }
+        ensures { (first : machine.Outstanding) (rest : List machine.Outstanding) → self.old.untried
+            ≡ first ∷ rest
+            → self.new ≡ record self.old { untried = rest } }
     {
         let _first = self.untried.pop_front();
     }
 
     /// Puts the transaction that was to be tried next after the others, for a wait with this timeout.
     pub fn wait_again(&mut self, timeout: Option<u64>)
-        ensures { (first : machine.Outstanding) (rest : List machine.Outstanding) → self.old.untried ≡ first ∷ rest
-            → self.new ≡ record { untried = rest; outstanding = self.old.outstanding ++ record first { timeout = timeout } ∷ [] } }
+        ensures { (first : machine.Outstanding) (rest : List machine.Outstanding) → self.old.untried
+            ≡ first ∷ rest
+            → self.new
+            ≡ record {
+              untried = rest;
+              outstanding = self.old.outstanding ++ record first
+                  { timeout = timeout } ∷ [];
+            } }
     {
         let Some(mut first) = self.untried.pop_front() else {
             return;
@@ -196,7 +214,8 @@ fn due_among(these: &[Outstanding], due: Option<u64>) -> Option<u64>
 }
 
 fn keep_without(these: &mut VecDeque<Outstanding>, session: u64, text: &[u8])
-    ensures items { these.new.items ≡ filter (λ o. not (has_text session text.now o)) these.old.items }
+    ensures items { these.new.items
+        ≡ filter (λ o. not (has_text session text.now o)) these.old.items }
     ensures len { deque_len these.new ≤ deque_len these.old }
     ensures capacity { deque_capacity these.new ≡ deque_capacity these.old }
 {
@@ -212,7 +231,8 @@ fn keep_others(these: &mut VecDeque<Outstanding>, session: u64)
 }
 
 fn keep_open(these: &mut VecDeque<Outstanding>, sessions: &Sessions)
-    ensures items { these.new.items ≡ filter (λ o. has_serial o.session sessions.now.open_sessions) these.old.items }
+    ensures items { these.new.items
+        ≡ filter (λ o. has_serial o.session sessions.now.open_sessions) these.old.items }
     ensures len { deque_len these.new ≤ deque_len these.old }
     ensures capacity { deque_capacity these.new ≡ deque_capacity these.old }
 {

@@ -40,7 +40,8 @@ fn write_item(
     is_first: bool,
     item: &OpResult,
 ) -> Result<(), AllocError>
-    ensures ok { OnOk result (text.new.items ≡ text.old.items ++ (comma_if (not is_first) ++ compact_text item.now)) }
+    ensures ok { OnOk result (text.new.items
+        ≡ text.old.items ++ (comma_if (not is_first) ++ compact_text item.now)) }
     ensures grown { HasGrown text.old.items text.new.items }
 {
     if !is_first {

@@ -58,7 +58,8 @@ impl From<Tree> for OpResult {
 
 /// Writes the object whose one member `rows` is this array.
 fn write_rows(text: &mut Vec<u8>, rows: &ArrayText) -> Result<(), AllocError>
-    ensures ok { OnOk result (text.new.items ≡ text.old.items ++ compact_text (object_of ((codes "rows", array rows.now) ∷ []))) }
+    ensures ok { OnOk result (text.new.items
+        ≡ text.old.items ++ compact_text (object_of ((codes "rows", array rows.now) ∷ []))) }
     ensures grown { HasGrown text.old.items text.new.items }
 {
     text.extend_from_slice(b"{\"rows\":[")?;

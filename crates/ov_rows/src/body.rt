@@ -15,7 +15,8 @@ impl Columns {
     /// order of their names. It reads back as that object if each value is of some kinds, as in every table.
     pub fn text(&self, alloc: Global) -> Result<Bytes, AllocError>
         ensures text { IfOk result (λ text. text ≡ compact_text (body_of self.now)) }
-        ensures reads_back { AreOfKinds self.now → IfOk result (λ text. tree_of text ≡ Some (body_of self.now)) }
+        ensures reads_back { AreOfKinds self.now
+            → IfOk result (λ text. tree_of text ≡ Some (body_of self.now)) }
     {
         self.text_in(Vec::new(alloc))
     }
@@ -24,7 +25,8 @@ impl Columns {
     pub(crate) fn text_in(&self, buffer: Vec<u8>) -> Result<Bytes, AllocError>
         requires { buffer.items ≡ [] }
         ensures text { IfOk result (λ text. text ≡ compact_text (body_of self.now)) }
-        ensures reads_back { AreOfKinds self.now → IfOk result (λ text. tree_of text ≡ Some (body_of self.now)) }
+        ensures reads_back { AreOfKinds self.now
+            → IfOk result (λ text. tree_of text ≡ Some (body_of self.now)) }
     {
         let mut out = Writer::new(buffer);
         out.begin_object()?;

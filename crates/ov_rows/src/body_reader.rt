@@ -38,7 +38,8 @@ impl BodyReader {
         requires { DoAscend names.now }
         ensures names { IfOk result (λ columns. keys columns ≡ names.now) }
         ensures text { IfOk result (λ columns. compact_text (body_of columns) ≡ body.now) }
-        ensures reads_back { IfOk result (λ columns. AreOfKinds columns → tree_of body.now ≡ Some (body_of columns)) }
+        ensures reads_back { IfOk result (λ columns. AreOfKinds columns
+            → tree_of body.now ≡ Some (body_of columns)) }
     {
         let values = self.values(alloc, names, body)?;
         let columns = Columns::listed(names, values)?;

@@ -73,7 +73,8 @@ impl Rows {
 
     /// The rows of the table of this name, if it ever had one.
     pub fn of_table(&self, table: &str) -> Option<&TableRows>
-        ensures { rows_in table.now (option_copied result) ≡ filter (λ r. bytes_eq r.0.0 table.now) (entries self.now) }
+        ensures { rows_in table.now (option_copied result)
+            ≡ filter (λ r. bytes_eq r.0.0 table.now) (entries self.now) }
     {
         self.tables.get(table)
     }

@@ -17,7 +17,8 @@ pub fn append_item(
     is_first: bool,
     item: &Tree,
 ) -> Result<Bytes, AllocError>
-    ensures { (id : Data) (items : Items) → reply.now ≡ frame (reply_tree id (array items)) → (IsTrue is_first ↔ (items ≡ no_items))
+    ensures { (id : Data) (items : Items) → reply.now ≡ frame (reply_tree id (array items))
+        → (IsTrue is_first ↔ (items ≡ no_items))
         → IfOk result (λ b. b ≡ frame (reply_tree id (array (and_item items item.now)))) }
 {
     let reply = reply.as_slice();

@@ -58,7 +58,11 @@ pub fn notification(alloc: Global, method: &str, params: Trees) -> Result<Bytes,
 }
 
 fn notification_value(alloc: Global, method: &str, params: Value) -> Result<Value, AllocError>
-    ensures { IfOk result (λ v. view v ≡ object (member (codes "id") null (member (codes "method") (string method.now) (member (codes "params") (view params) no_members)))) }
+    ensures { IfOk result (λ v. view v
+        ≡ object
+        (member (codes "id") null
+        (member (codes "method") (string method.now)
+        (member (codes "params") (view params) no_members)))) }
 {
     json!(in alloc; {"id": null, "method": method, "params": params})
 }

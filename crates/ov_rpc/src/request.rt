@@ -122,8 +122,11 @@ fn bad(asker: Option<Tree>, kind: BadKind) -> Message
 
 /// Takes the member of this name out of an object.
 fn take_member(members: &mut Map<String, Value>, name: &str) -> Option<Value>
-    ensures value { option_map view result ≡ get_member name.now (members_view members.old.entries) }
-    ensures others { (q : List ℕ) → q ≢ name.now → get_member q (members_view members.new.entries) ≡ get_member q (members_view members.old.entries) }
+    ensures value { option_map view result
+        ≡ get_member name.now (members_view members.old.entries) }
+    ensures others { (q : List ℕ) → q ≢ name.now
+        → get_member q (members_view members.new.entries)
+        ≡ get_member q (members_view members.old.entries) }
 {
     members.remove(name)
 }

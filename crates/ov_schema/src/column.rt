@@ -34,7 +34,8 @@ impl Model for Column {
 impl Column {
     /// The column of these parts.
     pub fn new(type_of: ColumnType, is_ephemeral: bool, is_mutable: bool) -> Column
-        ensures { result ≡ record { type_of = type_of; is_ephemeral = is_ephemeral; is_mutable = is_mutable } }
+        ensures { result
+            ≡ record { type_of = type_of; is_ephemeral = is_ephemeral; is_mutable = is_mutable } }
     {
         Column {
             type_of,

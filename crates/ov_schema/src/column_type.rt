@@ -127,7 +127,9 @@ impl ColumnType {
     }
 
     fn pairs_fit(&self, pairs: &[(Atom, Atom)]) -> bool
-        ensures { result ≡ list_all (λ p. atom_fits self.now.key p.0 && value_fits self.now.value p.1) (pairs_view pairs.now) }
+        ensures { result
+            ≡ list_all (λ p. atom_fits self.now.key p.0 && value_fits self.now.value p.1)
+            (pairs_view pairs.now) }
     {
         for (key, value) in pairs {
             if !self.key.atom_fits(key) || !self.value_fits(value) {

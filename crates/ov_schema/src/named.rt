@@ -13,7 +13,8 @@ pub(crate) fn ascending<T: Drop>(
     alloc: Global,
     named: Vec<(String, T)>,
 ) -> Result<Vec<(Text, T)>, AllocError>
-    ensures { IfOk result (λ v. v.items ≡ entries (from_entries {R = name_cmp} (map named_view named.items))) }
+    ensures { IfOk result (λ v. v.items
+        ≡ entries (from_entries {R = name_cmp} (map named_view named.items))) }
 {
     let mut named = named;
     let mut by_name = BTreeMap::new(alloc);

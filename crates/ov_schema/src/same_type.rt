@@ -3,7 +3,8 @@ ghost use Rattle.std.specs.Cmp.Lexicographic.{pointwise};
 ghost use Rattle.std.specs.FinMap.{keys};
 ghost use Rattle.std.specs.Option.{option_copied, option_eq};
 ghost use Rattle.std.specs.Ordering.{eq_by_cmp};
-ghost use Rattle.ov_specs.specs.schema.SameType.{same_choices, same_reference, same_ranges, same_base, same_type};
+ghost use Rattle.ov_specs.specs.schema.SameType.{same_choices, same_reference, same_ranges};
+ghost use Rattle.ov_specs.specs.schema.SameType.{same_base, same_type};
 ghost use Rattle.ov_specs.specs.values.Value.{atom_cmp};
 ghost use Rattle.ov_atoms.specs.Views.{atoms_view};
 ghost use Rattle.ov_schema.specs.Sets.{set_in};
@@ -65,7 +66,8 @@ fn have_same_ranges(first: &BaseType, second: &BaseType) -> bool
 
 /// Whether both have the same `enum`, or neither has one.
 fn have_same_choices(first: &Option<Datum>, second: &Option<Datum>) -> bool
-    ensures { result ≡ option_eq same_choices (option_map set_in first.now) (option_map set_in second.now) }
+    ensures { result
+        ≡ option_eq same_choices (option_map set_in first.now) (option_map set_in second.now) }
 {
     match first {
         Some(choices) => match second {
@@ -87,14 +89,16 @@ fn atoms_of(set: &Datum) -> &[Atom]
 }
 
 fn are_same_atoms(first: &[Atom], second: &[Atom]) -> bool
-    ensures { result ≡ pointwise (eq_by_cmp atom_cmp) (atoms_view first.now) (atoms_view second.now) }
+    ensures { result
+        ≡ pointwise (eq_by_cmp atom_cmp) (atoms_view first.now) (atoms_view second.now) }
 {
     first == second
 }
 
 /// Whether both refer to the same table in the same way, or neither refers to one.
 fn have_same_references(first: Option<&Reference>, second: Option<&Reference>) -> bool
-    ensures { result ≡ option_eq same_reference (option_copied first.entry) (option_copied second.entry) }
+    ensures { result
+        ≡ option_eq same_reference (option_copied first.entry) (option_copied second.entry) }
 {
     match first {
         Some(reference) => match second {

@@ -142,7 +142,8 @@ fn with_own(
     alloc: Global,
     columns: Vec<(String, Column)>,
 ) -> Result<Vec<(String, Column)>, AllocError>
-    ensures { IfOk result (λ v. map named_view v.items ≡ own_columns ++ map named_view columns.items) }
+    ensures { IfOk result (λ v. map named_view v.items
+        ≡ own_columns ++ map named_view columns.items) }
 {
     let mut declared = columns;
     let mut all = Vec::new(alloc);

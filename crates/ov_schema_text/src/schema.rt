@@ -37,7 +37,8 @@ pub fn schema_of_tree(alloc: Global, tree: Tree) -> Result<Schema, SchemaFault>
 impl SchemaMembers {
     /// What the tree says, unless it is refused.
     fn read(alloc: Global, tree: &Value) -> Result<SchemaMembers, SchemaFault>
-        ensures ok { IfOk result (λ p. judged (view tree.now) (schema_shape (view tree.now)) ≡ Ok (schema_of_members (view tree.now) p)) }
+        ensures ok { IfOk result (λ p. judged (view tree.now) (schema_shape (view tree.now))
+            ≡ Ok (schema_of_members (view tree.now) p)) }
         ensures refused { IfErr result (λ fault. JudgesWith (view tree.now) fault) }
     {
         let Some(shape) = SchemaShape::read(alloc, tree)? else {
@@ -51,7 +52,8 @@ impl SchemaMembers {
 
     /// The parts of a schema that has these members.
     fn build(alloc: Global, shape: &SchemaShape<'_>) -> Result<SchemaMembers, AllocError>
-        ensures { IfOk result (λ p. (d : Data) → schema_of_members d p ≡ accepted_schema d (schema_view shape.now)) }
+        ensures { IfOk result (λ p. (d : Data) → schema_of_members d p
+            ≡ accepted_schema d (schema_view shape.now)) }
     {
         Ok(SchemaMembers {
             name: Text::from_str(alloc, shape.name)?,
@@ -76,7 +78,8 @@ fn tables_of(
     shapes: &[(&str, TableShape<'_>)],
     some_root: bool,
 ) -> Result<Vec<(Text, Table)>, AllocError>
-    ensures { IfOk result (λ v. v.items ≡ map (named_table_of some_root) (map named_table_view shapes.now)) }
+    ensures { IfOk result (λ v. v.items
+        ≡ map (named_table_of some_root) (map named_table_view shapes.now)) }
 {
     let mut tables = Vec::new(alloc);
     for (name, shape) in shapes {

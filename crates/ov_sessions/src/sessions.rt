@@ -1,6 +1,8 @@
-ghost use Rattle.std.specs.Prelude.{◌≡◌, ◌<◌, ◌-◌, ◌≤◌, ℕ, [], map, length, count_by, is_some, None, false, IfOk, OnErr, MatchOption};
+ghost use Rattle.std.specs.Prelude.{◌≡◌, ◌<◌, ◌-◌, ◌≤◌, ℕ, [], map, length, count_by, is_some};
+ghost use Rattle.std.specs.Prelude.{None, false, IfOk, OnErr, MatchOption};
 ghost use Rattle.std.specs.Map.Iter.{ShowsInOrder, deref};
-ghost use Rattle.ov_sessions.specs.Sessions.{OpensSession, most_sessions, has_serial, has_no_room, serial_left, without_serial, serial_at};
+ghost use Rattle.ov_sessions.specs.Sessions.{OpensSession, most_sessions, has_serial, has_no_room};
+ghost use Rattle.ov_sessions.specs.Sessions.{serial_left, without_serial, serial_at};
 
 use crate::session::Session;
 use std::alloc::{AllocError, Global};
@@ -26,7 +28,8 @@ pub struct Sessions {
 impl Model for Sessions {
     ghost use Rattle.std.specs.Prelude.{map};
     ghost use Rattle.std.specs.Coded.{codes};
-    ghost use Rattle.ov_sessions.specs.Sessions.{OpenSessions, AreTied, session_at, open_sessions_code};
+    ghost use Rattle.ov_sessions.specs.Sessions.{OpenSessions, AreTied, session_at};
+    ghost use Rattle.ov_sessions.specs.Sessions.{open_sessions_code};
 
     ghost Value = { OpenSessions };
 
@@ -117,7 +120,8 @@ impl Sessions {
 
     /// Closes the session of this serial, if it is open. Allocates nothing.
     pub fn close(&mut self, serial: u64)
-        ensures { self.new ≡ record self.old { open_sessions = without_serial serial self.old.open_sessions } }
+        ensures { self.new
+            ≡ record self.old { open_sessions = without_serial serial self.old.open_sessions } }
     {
         if let Some(key) = self.keys.remove(&serial) {
             self.serials[key] = None;

@@ -24,6 +24,8 @@ pub mod LineKeys
 pub mod Truths
 pub mod Lists
 pub mod Names
+pub mod Results
+pub mod RowReading
 pub mod SuitingColumns
 pub mod Suiting
 pub mod FoundRows

@@ -1,4 +1,5 @@
 pub mod Uuid
 pub mod Value
+pub mod Results
 pub mod Reading
 pub mod Writing

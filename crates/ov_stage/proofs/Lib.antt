@@ -1,5 +1,4 @@
 pub mod Asking
-pub mod Matching
 pub mod Lookups
 pub mod Meeting
 pub mod Narrowing

@@ -1,4 +1,4 @@
-ghost use Rattle.std.specs.Prelude.{◌≡◌, true, IfOk};
+ghost use Rattle.std.specs.Prelude.{◌≡◌, true, drop, IfOk};
 ghost use Rattle.std.specs.FinMap.{empty};
 ghost use Rattle.std.specs.List.{list_all};
 ghost use Rattle.serde_json.specs.View.{items_view};
@@ -9,7 +9,7 @@ ghost use Rattle.ov_specs.specs.rows.Suits.{Suits};
 ghost use Rattle.ov_specs.specs.operations.Errors as spec;
 ghost use Rattle.ov_specs.specs.operations.Transaction.{and_error, and_item, ended, transaction};
 ghost use Rattle.ov_specs.specs.schema.Schema.{IsAccepted};
-ghost use Rattle.ov_specs.specs.values.Uuid.{is_uuid};
+ghost use Rattle.ov_specs.specs.values.Uuid.{is_uuid, uuid_at};
 ghost use Rattle.ov_projection.specs.Errors.{error_view};
 ghost use Rattle.ov_txn.specs.Performing.{IsPerformed, SuitsPerformed, WholePerformed};
 ghost use Rattle.ov_txn.specs.Results.{nulls_after, prefixed};
@@ -95,6 +95,23 @@ fn end(
     }
 }
 
+/// The version of the rows that a transaction with these draws changes: the first of them.
+fn version_of(draws: &[Uuid]) -> Uuid
+    ensures { result ≡ uuid_at draws.now 0 }
+{
+    draws.first().copied().unwrap_or(Uuid::nil())
+}
+
+/// The draws for the inserts: all but the first.
+fn insert_draws(draws: &[Uuid]) -> &[Uuid]
+    ensures { result.now ≡ drop 1 draws.now }
+{
+    match draws.split_first() {
+        Some((_, others)) => others,
+        None => draws,
+    }
+}
+
 /// Performs the operations of a transaction in order, on a stage over the rows, and their commit.
 fn perform_operations<O: Owns>(
     alloc: Global,
@@ -119,15 +136,13 @@ fn perform_operations<O: Owns>(
 {
     let mut results = ArrayText::new(alloc);
     let mut stage = Stage::with_indexes(alloc, schema, rows, indexes);
-    let Some((version, draws)) = txn.draws().split_first() else {
-        return Ok(Performed::Completed(results, stage.into_delta()));
-    };
-    let inserts = NamedRows::new(alloc, draws, txn.operations())?;
+    let version = version_of(txn.draws());
+    let inserts = NamedRows::new(alloc, insert_draws(txn.draws()), txn.operations())?;
     let ctx = OpCtx {
         schema,
         inserts: &inserts,
         owns,
-        version: *version,
+        version,
         age,
     };
     let operations = txn.operations().as_slice();
@@ -143,7 +158,7 @@ fn perform_operations<O: Owns>(
             OpOutcome::NoMemory => return Err(AllocError),
         }
     }
-    end(alloc, schema, *version, links, indexes, results, stage)
+    end(alloc, schema, version, links, indexes, results, stage)
 }
 
 /// Performs the operations of a transaction of this age in milliseconds, whose session owns these locks, in order, each on

@@ -1,7 +1,6 @@
 pub mod Twice
 pub mod Placing
 pub mod Changes
-pub mod Faults
 pub mod Modified
 pub mod Names
 pub mod Kept

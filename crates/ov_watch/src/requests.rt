@@ -3,6 +3,7 @@ ghost use Rattle.serde_json.specs.Find.{as_array};
 ghost use Rattle.serde_json.specs.View.{view, items_view, members_view};
 ghost use Rattle.ov_specs.specs.monitors.Requests as spec;
 ghost use Rattle.ov_specs.specs.schema.Schema.{has_twice};
+ghost use Rattle.ov_specs.specs.schema.SchemaShape.{each_member};
 ghost use Rattle.ov_specs.specs.values.Reading.{each_read};
 
 use crate::request::MonitorRequest;
@@ -49,7 +50,7 @@ fn each_table(
     members: &Map<String, Value>,
 ) -> Result<Option<Vec<TableRequests>>, AllocError>
     ensures { IfOk result (λ o. option_map (λ v. v.items) o
-        ≡ spec.each_table_read (members_view members.now.entries)) }
+        ≡ each_member spec.table_requests_read (members_view members.now.entries)) }
 {
     let mut tables = Vec::new(alloc);
     for (name, tree) in members.iter() {

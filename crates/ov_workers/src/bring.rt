@@ -56,7 +56,8 @@ pub(crate) fn bring_piece<R: Wait, L: Ledger, G: Gate>(
     piece: &[u8],
 ) -> Option<ReadCause>
     ensures inlet { SameInlet inlet.old inlet.new }
-    ensures brought { (stream : List ℕ) → IsBrought stream cutter.old (sent inlet.old.ring) → BroughtSoFar result (stream ++ piece.now) cutter.new (sent inlet.new.ring) }
+    ensures brought { (stream : List ℕ) → IsBrought stream cutter.old (sent inlet.old.ring)
+        → BroughtSoFar result (stream ++ piece.now) cutter.new (sent inlet.new.ring) }
 {
     let Fed { messages, fault } = cutter.feed(common.alloc, piece);
     if let Some(cause) = bring_texts(common, inlet, messages) {

@@ -58,7 +58,8 @@ impl<S: Source, L: Ledger> Promise<ReadDone<S, L>> for Reads<S, L> {
 impl<S, L: Ledger> Reads<S, L> {
     /// The promise of a thread that gets these.
     fn of(keeps: bool, hand: &Consumer<Option<S>>, inlet: &Inlet<L>) -> Reads<S, L>
-        ensures { (result.keeps ≡ keeps) × (result.hand.value ≡ hand.now) × (result.inlet.value ≡ inlet.now) }
+        ensures { (result.keeps ≡ keeps) × (result.hand.value ≡ hand.now)
+            × (result.inlet.value ≡ inlet.now) }
     {
         Reads {
             hand: Snapshot::of(hand),
@@ -103,7 +104,8 @@ fn read_handed<R: Wait, L: Ledger, G: Gate, S: Source + Drop>(
 ) -> ReadDone<S, L>
     requires fresh { (received hand ≡ []) × (sent inlet.ring ≡ []) }
     ensures hand { SameConsumer hand result.hand }
-    ensures handed { ReadsHanded (source_of S.Source) keeps inlet (received result.hand) result.left }
+    ensures handed { ReadsHanded (source_of S.Source) keeps inlet (received result.hand)
+        result.left }
 {
     let _may_begin = common.order.wait_begin(common.rt);
     let mut hand = hand;
@@ -187,7 +189,8 @@ impl<S: Source + Drop, L: Ledger> Reading<S, L> {
     pub fn join<R: Threads>(self, rt: &R) -> ReadLeft<S, L>
         requires { (reader : S) × (sent self.hand ≡ Some reader ∷ []) }
         ensures { (reader : S) → sent self.hand ≡ Some reader ∷ []
-            → ReadsLink (source_of S.Source) self.handle.promise.keeps self.handle.promise.inlet.value reader result }
+            → ReadsLink (source_of S.Source) self.handle.promise.keeps
+            self.handle.promise.inlet.value reader result }
     {
         let Reading { handle, hand } = self;
         let mut hand = hand;

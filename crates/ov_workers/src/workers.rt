@@ -50,9 +50,11 @@ where
     S: Source + Send + Drop + 's,
     W: Sink + Send + Drop + 's,
     requires fresh { (sent inlet.ring ≡ []) × (received ring ≡ []) }
-    ensures reading { IfSome result (λ w. (sent w.reading.hand ≡ []) × (w.reading.handle.promise.inlet.value ≡ inlet)
+    ensures reading { IfSome result (λ w. (sent w.reading.hand ≡ [])
+        × (w.reading.handle.promise.inlet.value ≡ inlet)
         × (w.reading.handle.promise.keeps ≡ keeps)) }
-    ensures writing { IfSome result (λ w. (sent w.writing.hand ≡ []) × (w.writing.handle.promise.ring.value ≡ ring)
+    ensures writing { IfSome result (λ w. (sent w.writing.hand ≡ [])
+        × (w.writing.handle.promise.ring.value ≡ ring)
         × (w.writing.handle.promise.keeps ≡ keeps)) }
 {
     let Hands { reader, writer } = hands;
@@ -86,7 +88,8 @@ impl<S: Source + Drop, W: Sink + Drop, L: Ledger> Workers<S, W, L> {
     /// Hands the threads the two ends of a link.
     pub fn hand(&mut self, reader: S, writer: W)
         requires { (sent self.old.reading.hand ≡ []) × (sent self.old.writing.hand ≡ []) }
-        ensures handed { (sent self.new.reading.hand ≡ Some reader ∷ []) × (sent self.new.writing.hand ≡ Some writer ∷ []) }
+        ensures handed { (sent self.new.reading.hand ≡ Some reader ∷ [])
+            × (sent self.new.writing.hand ≡ Some writer ∷ []) }
         ensures promises { (self.new.reading.handle.promise ≡ self.old.reading.handle.promise)
             × (self.new.writing.handle.promise ≡ self.old.writing.handle.promise) }
     {
@@ -108,10 +111,12 @@ impl<S: Source + Drop, W: Sink + Drop, L: Ledger> Workers<S, W, L> {
         requires reading { (reader : S) × (sent self.reading.hand ≡ Some reader ∷ []) }
         requires writing { (writer : W) × (sent self.writing.hand ≡ Some writer ∷ []) }
         ensures reading { (reader : S) → sent self.reading.hand ≡ Some reader ∷ []
-            → ReadsLink (source_of S.Source) self.reading.handle.promise.keeps self.reading.handle.promise.inlet.value
+            → ReadsLink (source_of S.Source) self.reading.handle.promise.keeps
+            self.reading.handle.promise.inlet.value
             reader result.0 }
         ensures writing { (writer : W) → sent self.writing.hand ≡ Some writer ∷ []
-            → WritesLink (sink_of W.Sink) self.writing.handle.promise.keeps self.writing.handle.promise.ring.value
+            → WritesLink (sink_of W.Sink) self.writing.handle.promise.keeps
+            self.writing.handle.promise.ring.value
             writer result.1 }
     {
         let Workers { reading, writing } = self;

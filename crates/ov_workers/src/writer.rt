@@ -97,9 +97,11 @@ fn next_item<R: Wait, W: Sink>(
     ring: &mut Consumer<Sent>,
 ) -> Option<Sent>
     ensures ring { SameConsumer ring.old ring.new }
-    ensures taken { MatchOption result (received ring.new ≡ received ring.old) (λ item. received ring.new ≡ received ring.old ++ item ∷ []) }
+    ensures taken { MatchOption result (received ring.new
+        ≡ received ring.old) (λ item. received ring.new ≡ received ring.old ++ item ∷ []) }
     ensures written { W.bytes_written writer.new ≡ W.bytes_written writer.old }
-    ensures given { GivesWritten (W.bytes_written writer.old) (W.contents writer.old) (W.bytes_written writer.new) (W.contents writer.new) }
+    ensures given { GivesWritten (W.bytes_written writer.old) (W.contents writer.old)
+        (W.bytes_written writer.new) (W.contents writer.new) }
     ensures faults { CountsFailures (is_some result) (W.faults writer.old) (W.faults writer.new) }
 {
     match ring.pop() {
@@ -130,7 +132,8 @@ fn wait_item<R: Wait>(rt: &R, bell: &Bell, ring: &mut Consumer<Sent>) -> Sent
 /// Takes frames and drops them, up to the end mark.
 fn drop_frames<R: Wait>(rt: &R, bell: &Bell, ring: &mut Consumer<Sent>)
     ensures ring { SameConsumer ring.old ring.new }
-    ensures taken { (frames : List (List ℕ)) × (received ring.new ≡ received ring.old ++ (map Frame frames ++ End ∷ [])) }
+    ensures taken { (frames : List (List ℕ))
+        × (received ring.new ≡ received ring.old ++ (map Frame frames ++ End ∷ [])) }
 {
     for _ in rt.forever() {
         match wait_item(rt, bell, ring) {

@@ -57,7 +57,8 @@ impl<W: Sink> Promise<WriteDone<W>> for Writes<W> {
 impl<W> Writes<W> {
     /// The promise of a thread that gets these.
     fn of(keeps: bool, hand: &Consumer<Option<W>>, ring: &Consumer<Sent>) -> Writes<W>
-        ensures { (result.keeps ≡ keeps) × (result.hand.value ≡ hand.now) × (result.ring.value ≡ ring.now) }
+        ensures { (result.keeps ≡ keeps) × (result.hand.value ≡ hand.now)
+            × (result.ring.value ≡ ring.now) }
     {
         Writes {
             hand: Snapshot::of(hand),
@@ -193,7 +194,8 @@ impl<W: Sink + Drop> Writing<W> {
     pub fn join<R: Threads>(self, rt: &R) -> WriteLeft<W>
         requires { (writer : W) × (sent self.hand ≡ Some writer ∷ []) }
         ensures { (writer : W) → sent self.hand ≡ Some writer ∷ []
-            → WritesLink (sink_of W.Sink) self.handle.promise.keeps self.handle.promise.ring.value writer result }
+            → WritesLink (sink_of W.Sink) self.handle.promise.keeps self.handle.promise.ring.value
+            writer result }
     {
         let Writing { handle, hand } = self;
         let mut hand = hand;

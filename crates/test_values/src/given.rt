@@ -38,7 +38,7 @@ at 3 -> 3
 at 4 -> 4
 at 5 -> 9
 at 6 -> 6
-at 7 -> none
+at 7 -> 0
 named d -> 9
 named e -> 6
 uuid "00000000-0000-0000-0000-000000000009" -> none
@@ -351,7 +351,7 @@ fn timed(alloc: Global, text: &str) -> Result<String, Fail> {
 
 /// The number of the row that an operation makes.
 fn number_at(alloc: Global, rows: &NamedRows<'_>, place: &str) -> Result<String, Fail> {
-    number(alloc, rows.id_at(place.parse::<usize>()?))
+    number(alloc, Some(rows.id_at(place.parse::<usize>()?)))
 }
 
 /// The answer to a command.

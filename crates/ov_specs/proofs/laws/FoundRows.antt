@@ -1,6 +1,6 @@
 -- The rows that an operation is about are rows of the schema, and rows stay so when some are put and others removed.
-use Rattle.std.proofs.Common.{◌≡◌, ℕ, zero, suc, List, [], ◌∷◌, filter, Bool, true, false, cond, T, Option, Some, None, refl, sym, ap, subst, ◌∙◌}
-use Rattle.std.specs.Prelude.{slice_get, option_and_then, unwrap_or, if◌then◌else◌, codes}
+use Rattle.std.proofs.Common.{◌≡◌, ℕ, zero, suc, List, [], ◌∷◌, drop, filter, map, zip, Bool, true, false, cond, T, Option, Some, None, refl, sym, ap, subst, ◌∙◌}
+use Rattle.std.specs.Prelude.{option_map, unwrap_or, codes}
 use Rattle.std.specs.List.{list_all}
 use Rattle.std.specs.Str.{bytes_eq}
 use Rattle.std.specs.Ordering.{eq_by_cmp}
@@ -9,7 +9,7 @@ use Rattle.std.specs.FinMap.Entries.{below_all}
 use Rattle.std.proofs.lemmas.Bool.{and_parts, and_from}
 use Rattle.std.proofs.lemmas.Option.{same_Some}
 use Rattle.std.proofs.lemmas.Slice.Eq.{bytes_eq-Decides}
-use Rattle.serde_json.specs.Data.{Data, Items, no_items, item}
+use Rattle.serde_json.specs.Data.{Data, Items}
 use Rattle.serde_json.specs.Find as find
 use Rattle.serde_json.specs.Find.{as_str}
 use Rattle.uuid.specs.Text.{parsed_hyphenated}
@@ -24,7 +24,8 @@ use Rattle.ov_specs.specs.rows.Lines.{LineKey, line_cmp}
 use Rattle.ov_specs.specs.rows.Suits.{SuitsTable, SuitsRow, Suits}
 use Rattle.ov_specs.specs.rows.Version.{row_now}
 use Rattle.ov_specs.specs.schema.SchemaTypes.{Table, Schema}
-use Rattle.ov_specs.specs.values.Uuid.{Uuid, is_uuid, no_names, AreUuids}
+use Rattle.ov_specs.specs.values.Uuid.{Uuid, is_uuid, uuid_at, no_names, AreUuids}
+use Rattle.ov_specs.specs.wire.Tree.{item_list}
 use Rattle.ov_specs.proofs.laws.LineKeys.{key_total, tied_same, same_tied}
 use Rattle.ov_specs.proofs.laws.OfKinds.{Passes, passes-then, passes-or, passes-from, uuid_is_uuid}
 use Rattle.ov_specs.proofs.laws.Suiting.{one_row_suits, version_suits}
@@ -47,31 +48,35 @@ chosen_or_drawn : (chosen : Option Uuid) (draw : Uuid) → Passes is_uuid chosen
 chosen_or_drawn None draw passes is = is
 chosen_or_drawn (Some id) draw passes is = passes
 
-pub inserted_are : (draws : List Uuid) (operations : Items) → list_all is_uuid draws ≡ true → list_all is_uuid (inserted_ids draws operations) ≡ true
-inserted_are draws no_items are = refl
-inserted_are [] (item d operations) are = refl
-inserted_are (draw ∷ draws) (item d operations) are =
+chosen_are : (inserts : List Data) (draws : List Uuid) → list_all is_uuid draws ≡ true → list_all is_uuid (map (λ p. unwrap_or (chosen_id p.0) p.1) (zip inserts draws)) ≡ true
+chosen_are [] draws are = refl
+chosen_are (d ∷ inserts) [] are = refl
+chosen_are (d ∷ inserts) (draw ∷ draws) are =
     let parts = and_parts (is_uuid draw) (list_all is_uuid draws) are in
-    by (is_insert d) (inserted_are draws operations parts.1) (inserted_are (draw ∷ draws) operations are) parts.0
-  where
-    by : (b : Bool) → list_all is_uuid (inserted_ids draws operations) ≡ true → list_all is_uuid (inserted_ids (draw ∷ draws) operations) ≡ true → is_uuid draw ≡ true
-        → list_all is_uuid (if b then unwrap_or (chosen_id d) draw ∷ inserted_ids draws operations else inserted_ids (draw ∷ draws) operations) ≡ true
-    by true later same is = and_from (is_uuid (unwrap_or (chosen_id d) draw)) (list_all is_uuid (inserted_ids draws operations)) (chosen_or_drawn (chosen_id d) draw (chosen_is_uuid d) is) later
-    by false later same is = same
+    and_from (is_uuid (unwrap_or (chosen_id d) draw)) (list_all is_uuid (map (λ p. unwrap_or (chosen_id p.0) p.1) (zip inserts draws)))
+    (chosen_or_drawn (chosen_id d) draw (chosen_is_uuid d) parts.0) (chosen_are inserts draws parts.1)
+
+pub inserted_are : (draws : List Uuid) (operations : Items) → list_all is_uuid draws ≡ true → list_all is_uuid (inserted_ids draws operations) ≡ true
+inserted_are draws operations = chosen_are (filter is_insert (item_list operations)) draws
+
+-- those after the first draw
+pub others_are : (draws : List Uuid) → list_all is_uuid draws ≡ true → list_all is_uuid (drop 1 draws) ≡ true
+others_are [] are = refl
+others_are (draw ∷ draws) are = (and_parts (is_uuid draw) (list_all is_uuid draws) are).1
 
 -- ---- the names of a transaction stand for identifiers
 
-pub got : (ids : List Uuid) (i : ℕ) (id : Uuid) → list_all is_uuid ids ≡ true → slice_get ids i ≡ Some id → is_uuid id ≡ true
-got [] i id are h = cc
-got (x ∷ ids) zero id are h = subst (λ y. is_uuid y ≡ true) (same_Some x id h) (and_parts (is_uuid x) (list_all is_uuid ids) are).0
-got (x ∷ ids) (suc i) id are h = got ids i id (and_parts (is_uuid x) (list_all is_uuid ids) are).1 h
+pub at_is_uuid : (ids : List Uuid) (place : ℕ) → list_all is_uuid ids ≡ true → is_uuid (uuid_at ids place) ≡ true
+at_is_uuid [] place are = refl
+at_is_uuid (id ∷ ids) zero are = (and_parts (is_uuid id) (list_all is_uuid ids) are).0
+at_is_uuid (id ∷ ids) (suc place) are = at_is_uuid ids place (and_parts (is_uuid id) (list_all is_uuid ids) are).1
 
 pub names_are : (ids : List Uuid) (operations : Items) → list_all is_uuid ids ≡ true → AreUuids (uuids_named ids operations)
 names_are ids operations are name id h = by (place_declared name operations) h
   where
-    by : (o : Option ℕ) → option_and_then (id_at ids operations) o ≡ Some id → is_uuid id ≡ true
+    by : (o : Option ℕ) → option_map (id_at ids operations) o ≡ Some id → is_uuid id ≡ true
     by None e = cc
-    by (Some place) e = got ids (inserts_before place operations) id are e
+    by (Some place) e = subst (λ x. is_uuid x ≡ true) (same_Some (id_at ids operations place) id e) (at_is_uuid ids (inserts_before place operations) are)
 
 -- ---- each row stands at its key
 

@@ -1,6 +1,6 @@
 -- What is given to a row, and what mutations make of it, suits its table.
 use Rattle.std.proofs.Common.{◌≡◌, ℕ, List, [], ◌∷◌, map, Bool, true, false, cond, Option, Some, None, if◌then◌else◌, refl, sym, ap, subst, ◌∙◌}
-use Rattle.std.specs.Prelude.{◌&&◌, not, Result, Ok, Err}
+use Rattle.std.specs.Prelude.{◌&&◌, not, ok_or, Result, Ok, Err}
 use Rattle.std.specs.List.{list_all}
 use Rattle.std.specs.FinMap.{empty, get, insert, keys, entries, get-insert}
 use Rattle.std.proofs.lemmas.Bool.{and_parts, and_from}
@@ -8,10 +8,10 @@ use Rattle.std.proofs.lemmas.Option.{same_Some}
 use Rattle.serde_json.specs.Data.{Data, Items, no_items, item, Members, no_members, member}
 use Rattle.ov_specs.specs.operations.Conditions.{Triple, triple_read}
 use Rattle.ov_specs.specs.operations.Errors.{OpError, ConstraintViolation}
-use Rattle.ov_specs.specs.operations.GivenRow.{may_be_new, may_be_changed, given_value, given_values, with_values, with_column, and_then_columns, fitting_reading}
+use Rattle.ov_specs.specs.operations.GivenRow.{may_be_new, may_be_changed, given_value, given_values, with_values, fitting_reading}
 use Rattle.ov_specs.specs.operations.Insert.{new_row, with_defaults}
-use Rattle.ov_specs.specs.operations.Mutate.{and_mutation, mutations_read, mutated_or_error, mutated_value, mutated_columns, and_row, mutated_rows}
-use Rattle.ov_specs.specs.operations.Mutators.{Change, Compute, Insert, Delete, Mutation, MutationFault, NotMutable, Mutator, mutator_on, change_read, with_change, with_mutator, mutation_on, mutation_of, mutation_read, suits_mutation, MutateError, Domain, Range, Constraint, divides_by_zero, computed_atom, has_equal_two, fitting, of_results, inserted, deleted, mutated}
+use Rattle.ov_specs.specs.operations.Mutate.{mutations_read, mutate_error, mutated_value, column_mutated, mutated_columns, mutated_rows}
+use Rattle.ov_specs.specs.operations.Mutators.{Change, Compute, Insert, Delete, Mutation, MutationFault, mutation_error, NotMutable, Mutator, mutator_on, change_read, with_change, with_mutator, mutation_on, mutation_of, mutation_read, suits_mutation, MutateError, Domain, Range, Constraint, divides_by_zero, computed_atom, has_equal_two, fitting, of_results, inserted, deleted, mutated}
 use Rattle.ov_specs.specs.rows.RowNames.{is_own_column}
 use Rattle.ov_specs.specs.operations.Update.{updated_row}
 use Rattle.ov_specs.specs.rows.Database.{Columns, Row}
@@ -19,6 +19,7 @@ use Rattle.ov_specs.specs.rows.Lines.{LineKey}
 use Rattle.ov_specs.specs.rows.Suits.{is_value_for, column_of_row, suits_column, SuitsTable}
 use Rattle.ov_specs.specs.schema.SchemaTypes.{ColumnType, Column, Table, Schema, kinds_of}
 use Rattle.ov_specs.specs.values.Reading.{Reading, Reads, Unreadable, Clashing, reads}
+use Rattle.ov_specs.specs.values.Results.{result_map, result_map_err, result_and_then}
 use Rattle.ov_specs.specs.values.Uuid.{Names, AreUuids}
 use Rattle.ov_specs.specs.values.Value.{Integers, is_atom_of, Atom, Datum, Atoms, Pairs, set_of, is_of}
 use Rattle.ov_specs.specs.schema.Fitting.{fits}
@@ -26,6 +27,8 @@ use Rattle.ov_specs.specs.schema.Schema.{is_empty}
 use Rattle.ov_specs.proofs.laws.Names.{name_cmp_total, same_name, same_name-is, EachEntry, each_entry}
 use Rattle.ov_specs.proofs.laws.OfColumns.{mutation_read_suits, mutated_is_of}
 use Rattle.ov_specs.proofs.laws.OfKinds.{reads_is_of}
+use Rattle.ov_specs.proofs.laws.Results.{first_of_all}
+use Rattle.ov_specs.proofs.laws.RowReading.{read_to, row_read_on, with_defaults_on}
 use Rattle.ov_specs.proofs.laws.SuitingColumns.{fitted, IsGiven, column_is, SuitsSoFar, suits_so_far, none_suits, one_more_suits, defaults_complete, MakesComplete, complete_suits, MakesRow}
 use Rattle.ov_specs.proofs.laws.FoundRows.{AreFound, AreMade}
 
@@ -70,15 +73,21 @@ module _ (may_be : List ℕ → Column → Bool) (others : AreOthers may_be) (na
   GivesSuiting (Ok columns) = SuitsSoFar table columns
   GivesSuiting (Err error) = Unit {0}
 
-  pub given_suit : (members : Members) (columns : Columns) → SuitsSoFar table columns → GivesSuiting (given_values may_be names table members columns)
-  given_suit no_members columns suits = suits
-  given_suit (member name d members) columns suits =
-      by (given_value may_be names name (get table.columns name) d) refl (λ datum given. given_suit members (insert columns name datum) (one_more_suits table columns name datum given suits))
+  abbrev given_at : List ℕ → Data → Result Datum OpError
+  given_at name d = given_value may_be names name (get table.columns name) d
+
+  read_suit : (members : Members) (columns : Columns) → SuitsSoFar table columns → GivesSuiting (read_to given_at members columns)
+  read_suit no_members columns suits = suits
+  read_suit (member name d members) columns suits =
+      by (given_at name d) refl (λ datum given. read_suit members (insert columns name datum) (one_more_suits table columns name datum given suits))
     where
-      by : (r : Result Datum OpError) → given_value may_be names name (get table.columns name) d ≡ r → ((datum : Datum) → IsGiven table name datum → GivesSuiting (given_values may_be names table members (insert columns name datum)))
-          → GivesSuiting (with_column r (λ datum. given_values may_be names table members (insert columns name datum)))
+      by : (r : Result Datum OpError) → given_at name d ≡ r → ((datum : Datum) → IsGiven table name datum → GivesSuiting (read_to given_at members (insert columns name datum)))
+          → GivesSuiting (result_and_then (λ datum. read_to given_at members (insert columns name datum)) r)
       by (Err error) is next = tt
       by (Ok datum) is next = next datum (value_is name d datum is)
+
+  pub given_suit : (members : Members) → GivesSuiting (given_values may_be names table members)
+  given_suit members = subst GivesSuiting (sym (row_read_on given_at members)) (read_suit members empty (none_suits table))
 
 -- ---- columns that are put in their places
 
@@ -189,14 +198,14 @@ pub mutations_are : (names : Names) → AreUuids names → (table : Table) (ds :
 mutations_are names are table no_items = tt
 mutations_are names are table (item d ds) = by (mutation_read names table d) refl (mutations_read names table ds) (mutations_are names are table ds)
   where
-    by : (r : Result Mutation MutationFault) → mutation_read names table d ≡ r → (others : Result (List Mutation) OpError) → MakesMutations table others → MakesMutations table (and_mutation r others)
+    by : (r : Result Mutation MutationFault) → mutation_read names table d ≡ r → (others : Result (List Mutation) OpError) → MakesMutations table others → MakesMutations table (first_of_all (result_map_err mutation_error r) others)
     by (Err fault) is others made = tt
     by (Ok m) is (Err error) made = tt
     by (Ok m) is (Ok ms) made = (mutation_is names are table d m is, made)
 
 -- ---- mutated rows
 
-pub no_error : (r : Result Datum MutateError) (datum : Datum) → mutated_or_error r ≡ Ok datum → r ≡ Ok datum
+pub no_error : (r : Result Datum MutateError) (datum : Datum) → result_map_err mutate_error r ≡ Ok datum → r ≡ Ok datum
 no_error (Err error) datum h = cc
 no_error (Ok v) datum h = cc
 
@@ -216,10 +225,10 @@ module _ (table : Table) (m : Mutation) (of : IsOf table m) where
       by true k = cc
       by false k = k
 
-  value_is_one : (columns : Columns) (datum : Datum) → SuitsTable table columns → mutated_value m (get columns m.column) ≡ Ok datum → suits_column (column_of_row table m.column) (Some datum) ≡ true
+  value_is_one : (columns : Columns) (datum : Datum) → SuitsTable table columns → column_mutated m columns ≡ Ok datum → suits_column (column_of_row table m.column) (Some datum) ≡ true
   value_is_one columns datum suits = by (get columns m.column) refl
     where
-      by : (o : Option Datum) → get columns m.column ≡ o → mutated_value m o ≡ Ok datum → suits_column (column_of_row table m.column) (Some datum) ≡ true
+      by : (o : Option Datum) → get columns m.column ≡ o → result_and_then (mutated_value m) (ok_or o ConstraintViolation) ≡ Ok datum → suits_column (column_of_row table m.column) (Some datum) ≡ true
       by None is h = cc
       by (Some old) is h =
           made_is_one old datum (column_of_row table m.column) refl (sym (ap (suits_column (column_of_row table m.column)) is) ∙ suits m.column) (no_error (mutated m.type_of m.change old) datum h)
@@ -227,12 +236,12 @@ module _ (table : Table) (m : Mutation) (of : IsOf table m) where
 pub mutated_suit : (table : Table) (ms : List Mutation) → AreOf table ms → (columns : Columns) → SuitsTable table columns → MakesRow table (mutated_columns ms columns)
 mutated_suit table [] of columns suits = suits
 mutated_suit table (m ∷ ms) of columns suits =
-    by (mutated_value m (get columns m.column)) refl
+    by (column_mutated m columns) refl
     (λ datum is_one. mutated_suit table ms of.1 (insert columns m.column datum) (put_column_suits table columns m.column datum is_one suits))
   where
-    by : (r : Result Datum OpError) → mutated_value m (get columns m.column) ≡ r
+    by : (r : Result Datum OpError) → column_mutated m columns ≡ r
         → ((datum : Datum) → suits_column (column_of_row table m.column) (Some datum) ≡ true → MakesRow table (mutated_columns ms (insert columns m.column datum)))
-        → MakesRow table (with_column r (λ datum. mutated_columns ms (insert columns m.column datum)))
+        → MakesRow table (result_and_then (λ datum. mutated_columns ms (insert columns m.column datum)) r)
     by (Err error) is next = tt
     by (Ok datum) is next = next datum (value_is_one table m of.0 columns datum suits is)
 
@@ -244,7 +253,7 @@ pub mutated_are : (schema : Schema) (table : Table) (ms : List Mutation) → Are
 mutated_are schema table ms of [] all = tt
 mutated_are schema table ms of (r ∷ found) all = by (mutated_columns ms r.1.columns) (mutated_suit table ms of r.1.columns all.0.suits) (mutated_rows ms found) (mutated_are schema table ms of found all.1)
   where
-    by : (made : Result Columns OpError) → MakesRow table made → (others : Result (List (LineKey × Columns)) OpError) → MakesRows schema table others → MakesRows schema table (and_row r.0 made others)
+    by : (made : Result Columns OpError) → MakesRow table made → (others : Result (List (LineKey × Columns)) OpError) → MakesRows schema table others → MakesRows schema table (first_of_all (result_map (λ columns. (r.0, columns)) made) others)
     by (Err error) suits others more = tt
     by (Ok columns) suits (Err error) more = tt
     by (Ok columns) suits (Ok others) more = (record { named = all.0.named; id = all.0.id; suits = suits }, more)
@@ -252,12 +261,14 @@ mutated_are schema table ms of (r ∷ found) all = by (mutated_columns ms r.1.co
 -- ---- a new row
 
 pub new_row_suits : (names : Names) → AreUuids names → (table : Table) (members : Members) → MakesRow table (new_row names table members)
-new_row_suits names are table members = by (given_values may_be_new names table members empty) (given_suit may_be_new new_are_others names are table members empty (none_suits table))
+new_row_suits names are table members = by (given_values may_be_new names table members) (given_suit may_be_new new_are_others names are table members)
   where
     by_defaults : (before : Columns) (r : Result Columns OpError) → MakesComplete table (entries table.columns) before r → MakesRow table r
     by_defaults before (Err error) made = tt
     by_defaults before (Ok after) made = complete_suits table before after made
 
-    by : (r : Result Columns OpError) → GivesSuiting may_be_new new_are_others names are table r → MakesRow table (and_then_columns r (λ columns. with_defaults (entries table.columns) columns))
+    by : (r : Result Columns OpError) → GivesSuiting may_be_new new_are_others names are table r → MakesRow table (result_and_then (with_defaults table) r)
     by (Err error) made = tt
-    by (Ok columns) made = by_defaults columns (with_defaults (entries table.columns) columns) (defaults_complete table (entries table.columns) columns (each_entry table.columns) made)
+    by (Ok columns) made =
+        by_defaults columns (with_defaults table columns)
+        (subst (MakesComplete table (entries table.columns) columns) (sym (with_defaults_on table columns)) (defaults_complete table (entries table.columns) columns (each_entry table.columns) made))

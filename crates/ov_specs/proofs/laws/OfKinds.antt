@@ -2,7 +2,7 @@
 use Rattle.std.proofs.Common.{◌≡◌, ◌&&◌, List, [], ◌∷◌, map, Bool, true, false, Option, Some, None, option_map, option_and_then, if◌then◌else◌, refl, sym, subst, ◌∙◌, ℕ, codes, Less, Equal, Greater}
 use Rattle.std.proofs.lemmas.Bool.{and_parts, and_from}
 use Rattle.std.specs.List.{list_all}
-use Rattle.std.specs.Option.{option_or}
+use Rattle.std.specs.Option.{option_or, option_zip}
 use Rattle.std.specs.FinMap.{entries, entries-insert, put, from_entries, empty, len-entries, len-empty}
 use Rattle.std.specs.FinMap.Entries.{by_order}
 use Rattle.serde_json.specs.Data.{Num, Data, Items, no_items, item}
@@ -10,7 +10,7 @@ use Rattle.serde_json.specs.Find.{as_number, as_bool, as_str, as_array, as_i64}
 use Rattle.uuid.specs.Text.{parsed_hyphenated}
 use Rattle.ov_specs.specs.values.Uuid.{is_uuid, is_id, Names, AreUuids}
 use Rattle.ov_specs.specs.values.Value.{AtomKind, Integers, Booleans, Texts, Uuids, Atom, Integer, Boolean, Text, Uuid, is_in_64_bits, is_text, atom_cmp, Kinds, Single, Pair, marked, set_of, map_of, Datum, Atoms, Pairs, is_atom_of, is_pair_of, is_of}
-use Rattle.ov_specs.specs.values.Reading.{Reading, Reads, Unreadable, Clashing, as_two, tagged, in_64_bits, integer_read, text_read, name_read, uuid_read, atom_read, in_front, both, pair_read, each_read, list_read, listed_or_one, atoms_read, pairs_read, has_clash, set_reading, map_reading, reads}
+use Rattle.ov_specs.specs.values.Reading.{Reading, Reads, Unreadable, Clashing, as_two, tagged, in_64_bits, integer_read, text_read, name_read, uuid_read, atom_read, in_front, pair_read, each_read, list_read, listed_or_one, atoms_read, pairs_read, has_clash, set_reading, map_reading, reads}
 use Rattle.ov_specs.proofs.laws.Order.{atom_cmp_total}
 use Rattle.ov_specs.proofs.laws.Uuids.{hyphenated_is_uuid}
 use Rattle.std.proofs.lemmas.List.{nil_from_length}
@@ -42,7 +42,7 @@ pub passes-from : {A : Type 0} (test : A → Bool) (o : Option A) → ((a : A) �
 passes-from test None h = tt
 passes-from test (Some a) h = h a refl
 
-passes-both : (key value : AtomKind) (a b : Option Atom) → Passes (is_atom_of key) a → Passes (is_atom_of value) b → Passes (is_pair_of key value) (both a b)
+passes-both : (key value : AtomKind) (a b : Option Atom) → Passes (is_atom_of key) a → Passes (is_atom_of value) b → Passes (is_pair_of key value) (option_zip a b)
 passes-both key value None b h k = tt
 passes-both key value (Some a) None h k = tt
 passes-both key value (Some a) (Some b) h k = and_from (is_atom_of key a) (is_atom_of value b) h k
@@ -85,7 +85,7 @@ module _ (names : Names) (are : AreUuids names) where
 
   pair_is_of : (key value : AtomKind) (d : Data) → Passes (is_pair_of key value) (pair_read names key value d)
   pair_is_of key value d =
-      passes-then (is_pair_of key value) (λ p. both (atom_read names key p.0) (atom_read names value p.1))
+      passes-then (is_pair_of key value) (λ p. option_zip (atom_read names key p.0) (atom_read names value p.1))
       (λ p. passes-both key value (atom_read names key p.0) (atom_read names value p.1) (atom_is_of key p.0) (atom_is_of value p.1)) (as_two d)
 
   -- ---- lists

@@ -1,24 +1,22 @@
 -- A transaction keeps the rows those of the schema.
-use Rattle.std.proofs.Common.{◌≡◌, ℕ, List, [], ◌∷◌, map, Bool, true, false, cond, Option, Some, None, refl, subst}
+use Rattle.std.proofs.Common.{◌≡◌, ℕ, List, drop, map, Bool, true, false, cond, Option, Some, None, refl, subst}
 use Rattle.std.specs.Prelude.{codes, nat_le, ◌+◌, option_and_then, Result, Ok, Err}
 use Rattle.std.specs.List.{list_all}
 use Rattle.std.specs.Str.{bytes_eq}
-use Rattle.std.specs.FinMap.{empty, get}
-use Rattle.std.proofs.lemmas.Bool.{and_parts}
+use Rattle.std.specs.FinMap.{get}
 use Rattle.serde_json.specs.Data.{Data, Items, no_items, item}
 use Rattle.serde_json.specs.Find as find
 use Rattle.serde_json.specs.Find.{as_bool}
 use Rattle.ov_specs.specs.wire.Message.{has_member}
 use Rattle.ov_specs.specs.integrity.Committed.{committed}
 use Rattle.ov_specs.specs.operations.Operation.{outcome_of}
-use Rattle.ov_specs.specs.operations.Transaction.{TransactionOutcome, Completes, Waits, and_result, after, ended, performed, transaction}
+use Rattle.ov_specs.specs.operations.Transaction.{TransactionOutcome, Completes, Waits, and_result, after, ended, performed, op_context, transaction}
 use Rattle.ov_specs.specs.operations.Assert.{asserted_lock}
 use Rattle.ov_specs.specs.operations.Delete.{delete_outcome}
 use Rattle.ov_specs.specs.operations.Conditions.{Condition}
 use Rattle.ov_specs.specs.operations.Errors.{OpError, SyntaxError, UnknownTable}
 use Rattle.ov_specs.specs.operations.GivenRow.{may_be_changed, given_values}
 use Rattle.ov_specs.specs.operations.Insert.{new_row, is_taken, put_new, uuid_fault, name_fault, insert_outcome}
-use Rattle.ov_specs.specs.operations.InsertedIds.{inserted_ids}
 use Rattle.ov_specs.specs.operations.MatchingRows.{on_conditions, matching, conditions_read}
 use Rattle.ov_specs.specs.operations.Mutate.{mutations_read, mutated_rows, mutate_outcome}
 use Rattle.ov_specs.specs.operations.NamedUuids.{id_at, inserts_before}
@@ -35,8 +33,8 @@ use Rattle.ov_specs.specs.schema.SchemaTypes.{Table, Schema}
 use Rattle.ov_specs.specs.values.Uuid.{Uuid, is_uuid, AreUuids}
 use Rattle.ov_specs.proofs.laws.Committing.{committed_suits}
 use Rattle.ov_specs.proofs.laws.Suiting.{one_row_suits}
-use Rattle.ov_specs.proofs.laws.SuitingColumns.{none_suits, MakesRow}
-use Rattle.ov_specs.proofs.laws.FoundRows.{got, names_are, inserted_are, matching_are, row_suits, put_suits, without_suits}
+use Rattle.ov_specs.proofs.laws.SuitingColumns.{MakesRow}
+use Rattle.ov_specs.proofs.laws.FoundRows.{at_is_uuid, names_are, inserted_are, others_are, matching_are, row_suits, put_suits, without_suits}
 use Rattle.ov_specs.proofs.laws.MadeRows.{changed_are_others, updated_are, MakesMutations, mutations_are, MakesRows, mutated_are, new_row_suits, given_suit, GivesSuiting}
 
 -- ---- what an operation comes to
@@ -92,13 +90,12 @@ module _ (c : OpContext) (all : Suits c.schema c.before) (is_version : is_uuid c
       some_suits c.schema (array_at (codes "where") d) SyntaxError _ (λ items _. ok_suits c.schema (conditions_read (names_in c) table items) _ (λ conditions _. h conditions))
 
   module _ (rows : Database) (suits : Suits c.schema rows) where
-    new_suits : (name : List ℕ) (table : Table) (columns : Columns) (is_chosen : Bool) (id : Option Uuid) → get c.schema.tables name ≡ Some table → SuitsTable table columns → ((x : Uuid) → id ≡ Some x → is_uuid x ≡ true)
+    new_suits : (name : List ℕ) (table : Table) (columns : Columns) (is_chosen : Bool) (id : Uuid) → get c.schema.tables name ≡ Some table → SuitsTable table columns → is_uuid id ≡ true
         → SuitsOutcome c.schema (put_new c rows name columns is_chosen id)
-    new_suits name table columns is_chosen None named made is_id = tt
-    new_suits name table columns is_chosen (Some id) named made is_id =
+    new_suits name table columns is_chosen id named made is_id =
         let key : LineKey = (name, id) in
         if_suits c.schema (is_taken c rows key is_chosen) _ _ tt
-        (one_row_suits c.schema rows key (row_now c.before c.version key columns) (row_suits c.schema c.before c.version table key columns all is_version (record { named = named; id = is_id id refl; suits = made })) suits)
+        (one_row_suits c.schema rows key (row_now c.before c.version key columns) (row_suits c.schema c.before c.version table key columns all is_version (record { named = named; id = is_id; suits = made })) suits)
 
     insert_suits : (place : ℕ) (d : Data) → SuitsOutcome c.schema (insert_outcome c place rows d)
     insert_suits place d = on_table_suits d _ (λ name table named.
@@ -107,7 +104,7 @@ module _ (c : OpContext) (all : Suits c.schema c.before) (is_version : is_uuid c
         (some_suits c.schema (object_at (codes "row") d) SyntaxError _ (λ members _.
         ok_suits c.schema (new_row (names_in c) table members) _ (λ columns made.
         new_suits name table columns (has_member (codes "uuid") d) (id_at c.ids c.operations place) named (subst (MakesRow table) made (new_row_suits (names_in c) are table members))
-        (λ x is. got c.ids (inserts_before place c.operations) x ids is))))))
+        (at_is_uuid c.ids (inserts_before place c.operations) ids))))))
 
     select_suits : (d : Data) → SuitsOutcome c.schema (select_outcome c rows d)
     select_suits d = on_table_suits d _ (λ name table named. on_conditions_suits table d _ (λ conditions. ok_suits c.schema (selected_columns table (find.get (codes "columns") d)) _ (λ names _. suits)))
@@ -115,9 +112,9 @@ module _ (c : OpContext) (all : Suits c.schema c.before) (is_version : is_uuid c
     update_suits : (d : Data) → SuitsOutcome c.schema (update_outcome c rows d)
     update_suits d = on_table_suits d _ (λ name table named. on_conditions_suits table d _ (λ conditions.
         some_suits c.schema (object_at (codes "row") d) SyntaxError _ (λ members _.
-        ok_suits c.schema (given_values may_be_changed (names_in c) table members empty) _ (λ given is.
+        ok_suits c.schema (given_values may_be_changed (names_in c) table members) _ (λ given is.
         put_suits c table (map (updated_row given) (matching rows name conditions)) rows all is_version
-        (updated_are c.schema table given (subst (GivesSuiting may_be_changed changed_are_others (names_in c) are table) is (given_suit may_be_changed changed_are_others (names_in c) are table members empty (none_suits table)))
+        (updated_are c.schema table given (subst (GivesSuiting may_be_changed changed_are_others (names_in c) are table) is (given_suit may_be_changed changed_are_others (names_in c) are table members))
         (matching rows name conditions) (matching_are c.schema rows name table conditions named suits)) suits))))
 
     mutate_suits : (d : Data) → SuitsOutcome c.schema (mutate_outcome c rows d)
@@ -176,7 +173,5 @@ module _ (c : OpContext) (all : Suits c.schema c.before) (is_version : is_uuid c
 -- a transaction keeps the rows those of the schema
 pub transaction_suits : (schema : Schema) (before : Database) (owns : Owns) (draws : List Uuid) (age : ℕ) (operations : Items) → list_all is_uuid draws ≡ true → Suits schema before
     → SuitsTransaction schema (transaction schema before owns draws age operations)
-transaction_suits schema before owns [] age operations drawn suits = suits
-transaction_suits schema before owns (version ∷ draws) age operations drawn suits =
-    let parts = and_parts (is_uuid version) (list_all is_uuid draws) drawn in
-    performed_suits (record { schema = schema; before = before; owns = owns; version = version; ids = inserted_ids draws operations; operations = operations; age = age }) suits parts.0 (inserted_are draws operations parts.1) 0 operations before suits
+transaction_suits schema before owns draws age operations drawn suits =
+    performed_suits (op_context schema before owns draws age operations) suits (at_is_uuid draws 0 drawn) (inserted_are (drop 1 draws) operations (others_are draws drawn)) 0 operations before suits

@@ -1,15 +1,14 @@
 -- A transaction that waits also waits if its session owns more locks: each "assert" before the wait that blocks it has passed.
-use Rattle.std.proofs.Common.{◌≡◌, ℕ, ◌+◌, List, [], ◌∷◌, Bool, true, false, cond, Option, Some, None, ◌⊎◌, inl, inr, refl, sym, ap, ◌∙◌}
+use Rattle.std.proofs.Common.{◌≡◌, ℕ, ◌+◌, List, Bool, true, false, cond, Option, Some, None, ◌⊎◌, inl, inr, refl, sym, ap, ◌∙◌}
 use Rattle.std.specs.Prelude.{codes}
 use Rattle.std.specs.Str.{bytes_eq}
 use Rattle.serde_json.specs.Data.{Data, Items, no_items, item}
 use Rattle.ov_specs.specs.operations.Assert.{asserted_lock, assert_outcome}
 use Rattle.ov_specs.specs.operations.Errors.{OpError, SyntaxError, NotOwner, error_tree}
-use Rattle.ov_specs.specs.operations.InsertedIds.{inserted_ids}
 use Rattle.ov_specs.specs.operations.Members.{text_at}
 use Rattle.ov_specs.specs.operations.Operation.{outcome_of}
 use Rattle.ov_specs.specs.operations.OpOutcome.{Owns, OpContext, OpOutcome, Done, Fault, Blocked, empty_result, some_or_fault}
-use Rattle.ov_specs.specs.operations.Transaction.{TransactionOutcome, Completes, Waits, and_result, nulls, after, performed, transaction}
+use Rattle.ov_specs.specs.operations.Transaction.{TransactionOutcome, Completes, Waits, and_result, nulls, after, performed, op_context, transaction}
 use Rattle.ov_specs.specs.rows.Database.{Database}
 use Rattle.ov_specs.specs.schema.SchemaTypes.{Schema}
 use Rattle.ov_specs.specs.values.Uuid.{Uuid}
@@ -80,6 +79,5 @@ module _ (c : OpContext) (other : Owns) (more : (name : List ℕ) → c.owns nam
 -- it also waits with more locks
 pub waits_owning : (schema : Schema) (before : Database) (owns other : Owns) (draws : List Uuid) (age : ℕ) (operations : Items) (timeout : Option ℕ) → ((name : List ℕ) → owns name ≡ true → other name ≡ true)
     → transaction schema before owns draws age operations ≡ Waits timeout → transaction schema before other draws age operations ≡ Waits timeout
-waits_owning schema before owns other [] age operations timeout more h = h
-waits_owning schema before owns other (version ∷ draws) age operations timeout more h =
-    performed_waits (record { schema = schema; before = before; owns = owns; version = version; ids = inserted_ids draws operations; operations = operations; age = age }) other more 0 operations before timeout h
+waits_owning schema before owns other draws age operations timeout more h =
+    performed_waits (op_context schema before owns draws age operations) other more 0 operations before timeout h

@@ -1,14 +1,14 @@
 -- A transaction with an error among its results leaves the database as it was.
-use Rattle.std.proofs.Common.{◌≡◌, ℕ, ◌+◌, List, [], ◌∷◌, map, Bool, true, false, cond, Option, Some, None, refl}
+use Rattle.std.proofs.Common.{◌≡◌, ℕ, ◌+◌, List, map, Bool, true, false, cond, Option, Some, None, refl}
 use Rattle.std.specs.Prelude.{codes, nat_le, ◌||◌, not, option_and_then, Result, Ok, Err}
 use Rattle.std.specs.Str.{bytes_eq}
-use Rattle.std.specs.FinMap.{empty, get}
+use Rattle.std.specs.FinMap.{get}
 use Rattle.serde_json.specs.Data.{Data, Items, no_items, item}
 use Rattle.serde_json.specs.Find as find
 use Rattle.serde_json.specs.Find.{as_bool}
 use Rattle.ov_specs.specs.integrity.Committed.{committed}
 use Rattle.ov_specs.specs.operations.Operation.{outcome_of}
-use Rattle.ov_specs.specs.operations.Transaction.{TransactionOutcome, Completes, Waits, and_result, after, ended, performed, transaction, has_error}
+use Rattle.ov_specs.specs.operations.Transaction.{TransactionOutcome, Completes, Waits, and_result, after, ended, performed, op_context, transaction, has_error}
 use Rattle.ov_specs.specs.operations.Assert.{asserted_lock}
 use Rattle.ov_specs.specs.operations.Conditions.{Condition}
 use Rattle.ov_specs.specs.operations.Delete.{delete_outcome}
@@ -17,7 +17,6 @@ use Rattle.ov_specs.specs.operations.GivenRow.{may_be_changed, given_values}
 use Rattle.ov_specs.specs.operations.Insert.{new_row, is_taken, put_new, uuid_fault, name_fault, insert_outcome}
 use Rattle.ov_specs.specs.operations.MatchingRows.{on_conditions, matching, conditions_read}
 use Rattle.ov_specs.specs.operations.Mutate.{mutations_read, mutated_rows, mutate_outcome}
-use Rattle.ov_specs.specs.operations.InsertedIds.{inserted_ids}
 use Rattle.ov_specs.specs.operations.NamedUuids.{id_at}
 use Rattle.ov_specs.specs.operations.Members.{text_at, array_at, object_at}
 use Rattle.ov_specs.specs.operations.OpOutcome.{Owns, OpContext, OpOutcome, Done, Fault, Blocked, some_or_fault, ok_or_fault, unless_fault, names_in, on_table}
@@ -60,9 +59,8 @@ module _ (c : OpContext) where
   plain_on_conditions : (table : Table) (d : Data) (next : List Condition → OpOutcome) → ((conditions : List Condition) → is_plain (next conditions) ≡ true) → is_plain (on_conditions c table d next) ≡ true
   plain_on_conditions table d next h = plain_some (array_at (codes "where") d) SyntaxError _ (λ items. plain_ok (conditions_read (names_in c) table items) _ h)
 
-  plain_new : (rows : Database) (name : List ℕ) (columns : Columns) (is_chosen : Bool) (id : Option Uuid) → is_plain (put_new c rows name columns is_chosen id) ≡ true
-  plain_new rows name columns is_chosen None = refl
-  plain_new rows name columns is_chosen (Some id) = plain_if (is_taken c rows (name, id) is_chosen) _ _ refl refl
+  plain_new : (rows : Database) (name : List ℕ) (columns : Columns) (is_chosen : Bool) (id : Uuid) → is_plain (put_new c rows name columns is_chosen id) ≡ true
+  plain_new rows name columns is_chosen id = plain_if (is_taken c rows (name, id) is_chosen) _ _ refl refl
 
   plain_insert : (place : ℕ) (rows : Database) (d : Data) → is_plain (insert_outcome c place rows d) ≡ true
   plain_insert place rows d = plain_on_table d _ (λ name table.
@@ -76,7 +74,7 @@ module _ (c : OpContext) where
 
   plain_update : (rows : Database) (d : Data) → is_plain (update_outcome c rows d) ≡ true
   plain_update rows d = plain_on_table d _ (λ name table. plain_on_conditions table d _ (λ conditions.
-      plain_some (object_at (codes "row") d) SyntaxError _ (λ members. plain_ok (given_values may_be_changed (names_in c) table members empty) _ (λ given. refl))))
+      plain_some (object_at (codes "row") d) SyntaxError _ (λ members. plain_ok (given_values may_be_changed (names_in c) table members) _ (λ given. refl))))
 
   plain_mutate : (rows : Database) (d : Data) → is_plain (mutate_outcome c rows d) ≡ true
   plain_mutate rows d = plain_on_table d _ (λ name table. plain_on_conditions table d _ (λ conditions.
@@ -147,6 +145,4 @@ performed_leaves c place (item d operations) rows =
 
 -- a transaction with an error among its results leaves the database as it was
 pub refused_leaves : (schema : Schema) (before : Database) (owns : Owns) (draws : List Uuid) (age : ℕ) (operations : Items) → LeavesIfError before (transaction schema before owns draws age operations)
-refused_leaves schema before owns [] age operations = λ h. refl
-refused_leaves schema before owns (version ∷ draws) age operations =
-    performed_leaves (record { schema = schema; before = before; owns = owns; version = version; ids = inserted_ids draws operations; operations = operations; age = age }) 0 operations before
+refused_leaves schema before owns draws age operations = performed_leaves (op_context schema before owns draws age operations) 0 operations before

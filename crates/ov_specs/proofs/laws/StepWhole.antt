@@ -1,15 +1,14 @@
 -- Each transaction and each step of the machine keeps whole rows whole, if the schema is accepted.
-use Rattle.std.proofs.Common.{◌≡◌, ℕ, ◌+◌, List, [], ◌∷◌, true, Some, Result, Ok, Err, refl, sym, subst}
+use Rattle.std.proofs.Common.{◌≡◌, ℕ, ◌+◌, List, true, Some, Result, Ok, Err, refl, sym, subst}
 use Rattle.serde_json.specs.Data.{Data, Items, no_items, item}
 use Rattle.ov_specs.specs.integrity.Committed.{committed, is_whole}
 use Rattle.ov_specs.specs.machine.History.{run}
 use Rattle.ov_specs.specs.machine.Machine.{State, Entry, Stepped, step, opening}
 use Rattle.ov_specs.specs.machine.Suiting.{IsWholeState}
 use Rattle.ov_specs.specs.operations.Errors.{OpError}
-use Rattle.ov_specs.specs.operations.InsertedIds.{inserted_ids}
 use Rattle.ov_specs.specs.operations.Operation.{outcome_of}
 use Rattle.ov_specs.specs.operations.OpOutcome.{Owns, OpContext, OpOutcome, Done, Fault, Blocked}
-use Rattle.ov_specs.specs.operations.Transaction.{TransactionOutcome, Completes, Waits, and_result, after, ended, performed, transaction}
+use Rattle.ov_specs.specs.operations.Transaction.{TransactionOutcome, Completes, Waits, and_result, after, ended, performed, op_context, transaction}
 use Rattle.ov_specs.specs.rows.Database.{Database}
 use Rattle.ov_specs.specs.schema.Schema.{IsAccepted}
 use Rattle.ov_specs.specs.schema.SchemaTypes.{Schema}
@@ -49,9 +48,7 @@ module _ (c : OpContext) (accepted : IsAccepted c.schema) (whole : is_whole c.sc
 -- a transaction keeps whole rows whole, whatever was drawn for it
 pub transaction_whole : (schema : Schema) (before : Database) (owns : Owns) (draws : List Uuid) (age : ℕ) (operations : Items) → IsAccepted schema → is_whole schema before ≡ true
     → WholeTransaction schema (transaction schema before owns draws age operations)
-transaction_whole schema before owns [] age operations accepted whole = whole
-transaction_whole schema before owns (version ∷ draws) age operations accepted whole =
-    performed_whole (record { schema = schema; before = before; owns = owns; version = version; ids = inserted_ids draws operations; operations = operations; age = age }) accepted whole 0 operations before
+transaction_whole schema before owns draws age operations accepted whole = performed_whole (op_context schema before owns draws age operations) accepted whole 0 operations before
 
 -- ---- steps and runs
 

@@ -5,15 +5,16 @@ use Rattle.std.proofs.lemmas.Bool.{and_from}
 use Rattle.std.specs.FinMap.{empty, get, insert, contains_key, entries, find, get-empty, get-insert, get-entries}
 use Rattle.ov_specs.specs.operations.Errors.{OpError, ConstraintViolation}
 use Rattle.ov_specs.specs.rows.RowNames.{is_own_column}
-use Rattle.ov_specs.specs.operations.GivenRow.{with_column}
-use Rattle.ov_specs.specs.operations.Insert.{fitting_default, with_defaults}
+use Rattle.ov_specs.specs.operations.Insert.{fitting_default}
 use Rattle.ov_specs.specs.rows.Database.{Columns}
 use Rattle.ov_specs.specs.rows.Suits.{is_value_for, column_of_row, suits_column, SuitsTable}
 use Rattle.ov_specs.specs.schema.Fitting.{fits, default_of}
 use Rattle.ov_specs.specs.schema.SchemaTypes.{Column, Table, kinds_of, name_cmp}
+use Rattle.ov_specs.specs.values.Results.{result_and_then}
 use Rattle.ov_specs.specs.values.Uuid.{AreUuids, no_names}
 use Rattle.ov_specs.specs.values.Value.{Datum, is_of}
 use Rattle.ov_specs.proofs.laws.Names.{name_cmp_total, same_name, same_name-is, EachEntry}
+use Rattle.ov_specs.proofs.laws.RowReading.{defaults_to}
 use Rattle.ov_specs.proofs.laws.SchemaLaws.{default_is_of}
 
 -- ---- one value
@@ -122,24 +123,24 @@ abbrev pub StandIn : Table → List (List ℕ × Column) → Type 0
 StandIn table cs = EachEntry (λ name column. get table.columns name ≡ Some column) cs
 
 -- the column in front has a value, or needs none, or is given its default
-column_complete : (table : Table) (c : List ℕ × Column) (cs : List (List ℕ × Column)) (columns : Columns) → get table.columns c.0 ≡ Some c.1 → SuitsSoFar table columns → MakesComplete table cs columns (with_defaults cs columns)
-    → ((datum : Datum) → SuitsSoFar table (insert columns c.0 datum) → MakesComplete table cs (insert columns c.0 datum) (with_defaults cs (insert columns c.0 datum)))
-    → MakesComplete table (c ∷ cs) columns (with_defaults (c ∷ cs) columns)
+column_complete : (table : Table) (c : List ℕ × Column) (cs : List (List ℕ × Column)) (columns : Columns) → get table.columns c.0 ≡ Some c.1 → SuitsSoFar table columns → MakesComplete table cs columns (defaults_to cs columns)
+    → ((datum : Datum) → SuitsSoFar table (insert columns c.0 datum) → MakesComplete table cs (insert columns c.0 datum) (defaults_to cs (insert columns c.0 datum)))
+    → MakesComplete table (c ∷ cs) columns (defaults_to (c ∷ cs) columns)
 column_complete table c cs columns stands suits others next = by (is_own_column c.0) (contains_key columns c.0) refl refl
   where
-    by_default : (r : Result Datum OpError) → is_own_column c.0 ≡ false → fitting_default c.1 ≡ r → MakesComplete table (c ∷ cs) columns (with_column r (λ datum. with_defaults cs (insert columns c.0 datum)))
+    by_default : (r : Result Datum OpError) → is_own_column c.0 ≡ false → fitting_default c.1 ≡ r → MakesComplete table (c ∷ cs) columns (result_and_then (λ datum. defaults_to cs (insert columns c.0 datum)) r)
     by_default (Err error) own is = tt
     by_default (Ok datum) own is =
         let given : IsGiven table c.0 datum = (c.1, column_is table c.0 c.1 own stands, default_suits c.1 datum is) in
-        added table c cs columns datum (with_defaults cs (insert columns c.0 datum)) (next datum (one_more_suits table columns c.0 datum given suits))
+        added table c cs columns datum (defaults_to cs (insert columns c.0 datum)) (next datum (one_more_suits table columns c.0 datum given suits))
 
     by : (own there : Bool) → is_own_column c.0 ≡ own → contains_key columns c.0 ≡ there
-        → MakesComplete table (c ∷ cs) columns (cond (own || there) (with_defaults cs columns) (with_column (fitting_default c.1) (λ datum. with_defaults cs (insert columns c.0 datum))))
-    by true there is_own is_there = passed table c cs columns (with_defaults cs columns) (ap (λ b. b || contains_key columns c.0) is_own) others
-    by false true is_own is_there = passed table c cs columns (with_defaults cs columns) (ap (λ b. b || contains_key columns c.0) is_own ∙ is_there) others
+        → MakesComplete table (c ∷ cs) columns (cond (own || there) (defaults_to cs columns) (result_and_then (λ datum. defaults_to cs (insert columns c.0 datum)) (fitting_default c.1)))
+    by true there is_own is_there = passed table c cs columns (defaults_to cs columns) (ap (λ b. b || contains_key columns c.0) is_own) others
+    by false true is_own is_there = passed table c cs columns (defaults_to cs columns) (ap (λ b. b || contains_key columns c.0) is_own ∙ is_there) others
     by false false is_own is_there = by_default (fitting_default c.1) is_own refl
 
-pub defaults_complete : (table : Table) (cs : List (List ℕ × Column)) (columns : Columns) → StandIn table cs → SuitsSoFar table columns → MakesComplete table cs columns (with_defaults cs columns)
+pub defaults_complete : (table : Table) (cs : List (List ℕ × Column)) (columns : Columns) → StandIn table cs → SuitsSoFar table columns → MakesComplete table cs columns (defaults_to cs columns)
 defaults_complete table [] columns stand suits = record { suits = suits; stays = λ name there. there; has = λ name column own found. cc }
 defaults_complete table (c ∷ cs) columns stand suits =
     column_complete table c cs columns stand.0 suits (defaults_complete table cs columns stand.1 suits) (λ datum more. defaults_complete table cs (insert columns c.0 datum) stand.1 more)

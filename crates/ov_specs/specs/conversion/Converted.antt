@@ -7,7 +7,6 @@ use Rattle.std.specs.Str.{bytes_eq}
 use Rattle.serde_json.specs.Written.{compact_text}
 use Rattle.ov_specs.specs.conversion.Carried.{carried}
 use Rattle.ov_specs.specs.integrity.Committed.{committed, is_whole}
-use Rattle.ov_specs.specs.operations.Errors.{OpError}
 use Rattle.ov_specs.specs.integrity.Limits.{rows_of}
 use Rattle.ov_specs.specs.rows.Cells.{StoredLines, InCells, Stored, cell_lines_of}
 use Rattle.ov_specs.specs.rows.Database.{Database}
@@ -19,6 +18,7 @@ use Rattle.ov_specs.specs.schema.Newer.{newer_than}
 use Rattle.ov_specs.specs.schema.SameType.{same_type}
 use Rattle.ov_specs.specs.schema.Schema.{accepted, is_empty, is_some_and}
 use Rattle.ov_specs.specs.schema.SchemaTypes.{Column, Table, Schema}
+use Rattle.ov_specs.specs.values.Results.{result_map_err}
 use Rattle.ov_specs.specs.values.Uuid.{Uuid}
 use Rattle.ov_specs.specs.wire.Message.{tree_of}
 
@@ -58,16 +58,11 @@ gets_unfit_default old new rows =
 
 -- ---- the conversion
 
--- the database that the commit gives, or that there is none
-abbrev pub as_conversion : Result Database OpError → Result Database OpenRefusal
-as_conversion (Ok rows) = Ok rows
-as_conversion (Err error) = Err NotConvertible
-
 -- a database of the old schema under the new one: a commit, under the new schema, of what is carried over
 abbrev pub converted_rows : Schema → Schema → Uuid → Database → Result Database OpenRefusal
 converted_rows old new version before =
     if gets_unfit_default old new before then Err NotConvertible
-    else as_conversion (committed new before version (carried old new version before))
+    else result_map_err (λ error. NotConvertible) (committed new before version (carried old new version before))
 
 -- A database of the old schema as one of the new one. The new schema has the old one's name, and is newer. The database is
 -- as a commit under the old schema leaves it. Columns that both schemas have keep their types.

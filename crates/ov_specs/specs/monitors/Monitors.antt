@@ -5,6 +5,7 @@ use Rattle.std.specs.Str.{bytes_eq}
 use Rattle.serde_json.specs.Data.{Data}
 use Rattle.ov_specs.specs.monitors.Requests.{MonitorFault, Syntax, Duplicate, Unknown, Limit, TableRequests, MonitoredTable, requests_read, monitored_tables}
 use Rattle.ov_specs.specs.schema.SchemaTypes.{Schema}
+use Rattle.ov_specs.specs.values.Results.{result_map}
 use Rattle.ov_specs.specs.wire.Frame.{frame}
 
 -- a monitor: the JSON value that names it, and what it reports of which tables, in ascending order of their names (RFC 7047,
@@ -25,8 +26,7 @@ is_named id m = bytes_eq (frame m.id) (frame id)
 
 -- the monitors with one more after them, in order of creation, or the fault
 abbrev pub with_monitor : List Monitor → Data → Result (List MonitoredTable) MonitorFault → Result (List Monitor) MonitorFault
-with_monitor monitors id (Err fault) = Err fault
-with_monitor monitors id (Ok tables) = Ok (monitors ++ record { id = id; tables = tables } ∷ [])
+with_monitor monitors id tables = result_map (λ checked. monitors ++ record { id = id; tables = checked } ∷ []) tables
 
 -- A monitor of these requests, if they read: its name is new, the session has fewer monitors than it may, and all tables and
 -- columns are known.

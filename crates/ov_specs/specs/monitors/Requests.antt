@@ -3,12 +3,14 @@ use Rattle.std.specs.Prelude.{ℕ, not, List, [], ◌∷◌, filter, Bool, true,
 use Rattle.std.specs.List.{flat_map, list_all, list_any}
 use Rattle.std.specs.FinMap.{get, contains_key, keys}
 use Rattle.std.specs.Str.{bytes_eq}
-use Rattle.serde_json.specs.Data.{Data, Items, Members, no_members, member}
+use Rattle.serde_json.specs.Data.{Data, Items}
 use Rattle.serde_json.specs.Find as find
 use Rattle.serde_json.specs.Find.{as_str, as_bool, as_array, as_object}
 use Rattle.ov_specs.specs.schema.Schema.{has_twice}
+use Rattle.ov_specs.specs.schema.SchemaShape.{named_parts}
 use Rattle.ov_specs.specs.schema.SchemaTypes.{Table, Schema}
-use Rattle.ov_specs.specs.values.Reading.{in_front, each_read, list_read}
+use Rattle.ov_specs.specs.values.Reading.{each_read, list_read}
+use Rattle.ov_specs.specs.values.Results.{each_or_fault}
 
 -- ---- requests
 
@@ -101,14 +103,10 @@ naming_once requests = if has_twice (requested_columns requests) then None else 
 abbrev pub table_requests_read : Data → Option (List MonitorRequest)
 table_requests_read d = option_and_then naming_once (one_or_each (as_array d) d)
 
--- those for each table, in ascending order of the tables' names, as a tree has its members (RFC 7047, 4.1.5, <monitor-requests>)
-abbrev pub each_table_read : Members → Option (List TableRequests)
-each_table_read no_members = Some []
-each_table_read (member name d members) = in_front (option_map (λ requests. (name, requests)) (table_requests_read d)) (each_table_read members)
-
--- the requests of a monitor: an object (RFC 7047, 4.1.5)
+-- The requests of a monitor: an object of those for each table, in ascending order of the tables' names (RFC 7047, 4.1.5,
+-- <monitor-requests>).
 abbrev pub requests_read : Data → Option (List TableRequests)
-requests_read d = option_and_then each_table_read (as_object d)
+requests_read d = named_parts table_requests_read d
 
 -- ---- what they come to
 
@@ -146,13 +144,6 @@ abbrev pub monitored_table : Option Table → TableRequests → Result Monitored
 monitored_table None t = Err UnknownTable
 monitored_table (Some table) t = if list_all (contains_key table.columns) (requested_columns t.1) then Ok (monitored table t) else Err UnknownColumn
 
--- a table in front of the others, or the first fault
-abbrev pub and_table : Result MonitoredTable MonitorFault → Result (List MonitoredTable) MonitorFault → Result (List MonitoredTable) MonitorFault
-and_table (Err fault) others = Err fault
-and_table (Ok table) (Err fault) = Err fault
-and_table (Ok table) (Ok others) = Ok (table ∷ others)
-
 -- the tables in ascending order, each checked wholly before the next one
 abbrev pub monitored_tables : Schema → List TableRequests → Result (List MonitoredTable) MonitorFault
-monitored_tables schema [] = Ok []
-monitored_tables schema (t ∷ ts) = and_table (monitored_table (get schema.tables t.0) t) (monitored_tables schema ts)
+monitored_tables schema requests = each_or_fault (λ t. monitored_table (get schema.tables t.0) t) requests

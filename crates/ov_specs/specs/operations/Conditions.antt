@@ -12,6 +12,7 @@ use Rattle.ov_specs.specs.values.Reading as reading
 use Rattle.ov_specs.specs.values.Reading.{Reading, Reads, reads}
 use Rattle.ov_specs.specs.schema.Schema.{is_some_and}
 use Rattle.ov_specs.specs.schema.SchemaTypes.{ColumnType, Column, Table, kinds_of}
+use Rattle.ov_specs.specs.values.Results.{result_map}
 use Rattle.ov_specs.specs.values.Uuid.{Uuid, Names}
 use Rattle.ov_specs.specs.values.Value.{AtomKind, Integers, Booleans, Texts, Uuids, Atom, Integer, AtomMap, Datum, Atoms, Pairs, count, is_of}
 
@@ -90,7 +91,7 @@ abbrev is_one : ℤ → Bool
 is_one n = int_le (pos 1) n && int_le n (pos 1)
 
 -- the number 0
-abbrev is_zero : ℤ → Bool
+abbrev pub is_zero : ℤ → Bool
 is_zero n = int_le (pos 0) n && int_le n (pos 0)
 
 -- at most one atom or pair (RFC 7047, 3.2, <type>, max)
@@ -147,8 +148,7 @@ value_read t f (Reads value) = if has_right_count t f value then Ok value else E
 
 -- the condition with this value
 abbrev pub with_value : List ℕ → Function → Result Datum ConditionFault → Result Condition ConditionFault
-with_value column f (Err fault) = Err fault
-with_value column f (Ok value) = Ok (record { column = column; function = f; value = value })
+with_value column f value = result_map (λ read. record { column = column; function = f; value = read }) value
 
 -- The condition with this function. Its value is read by the kinds of the column, and not by its constraints.
 abbrev pub with_function : Names → ColumnType → Triple → Option Function → Result Condition ConditionFault

@@ -1,15 +1,17 @@
 -- The "row" of an insert and of an update (RFC 7047, 5.1, <row>, 5.2.1 and 5.2.3).
 use Rattle.std.specs.Prelude.{ℕ, ◌&&◌, not, List, [], ◌∷◌, Bool, if◌then◌else◌, Option, Some, None, Result, Ok, Err}
-use Rattle.std.specs.FinMap.{get, insert, entries}
-use Rattle.serde_json.specs.Data.{Data, Members, no_members, member}
+use Rattle.std.specs.FinMap.{empty, get, insert, entries}
+use Rattle.serde_json.specs.Data.{Data, Members}
 use Rattle.ov_specs.specs.operations.Errors.{OpError, SyntaxError, UnknownColumn, ConstraintViolation}
 use Rattle.ov_specs.specs.rows.RowNames.{is_own_column}
 use Rattle.ov_specs.specs.rows.Database.{Columns}
 use Rattle.ov_specs.specs.schema.Fitting.{fits}
 use Rattle.ov_specs.specs.schema.SchemaTypes.{Column, Table, kinds_of}
 use Rattle.ov_specs.specs.values.Reading.{Reading, Reads, Unreadable, Clashing, reads}
+use Rattle.ov_specs.specs.values.Results.{result_map, each_or_fault}
 use Rattle.ov_specs.specs.values.Uuid.{Names}
 use Rattle.ov_specs.specs.values.Value.{Datum}
+use Rattle.ov_specs.specs.wire.Tree.{member_list}
 
 -- the columns that a new row may be given: all but `_uuid` and `_version` (RFC 7047, 5.2.1)
 abbrev pub may_be_new : List ℕ → Column → Bool
@@ -34,27 +36,26 @@ given_value may_be names name None d = Err UnknownColumn
 given_value may_be names name (Some column) d =
     if may_be name column then fitting_reading column (reads names (kinds_of column.type_of) d) else Err ConstraintViolation
 
--- one more column, and then the rest; or the fault of this one
-abbrev pub with_column : Result Datum OpError → (Datum → Result Columns OpError) → Result Columns OpError
-with_column (Err error) next = Err error
-with_column (Ok datum) next = next datum
-
--- the columns, if there is no fault, and then the rest
-abbrev pub and_then_columns : Result Columns OpError → (Columns → Result Columns OpError) → Result Columns OpError
-and_then_columns (Err error) next = Err error
-and_then_columns (Ok columns) next = next columns
-
--- The given columns, beside those that are there, in ascending order of their names, as a tree has its members; or the fault
--- of the first that has one (RFC 7047, 5.1, <row>).
-abbrev pub given_values : (List ℕ → Column → Bool) → Names → Table → Members → Columns → Result Columns OpError
-given_values may_be names table no_members columns = Ok columns
-given_values may_be names table (member name d members) columns =
-    with_column (given_value may_be names name (get table.columns name) d) (λ datum. given_values may_be names table members (insert columns name datum))
-
 -- the columns with these in place of those of their names (RFC 7047, 5.2.3)
 abbrev pub with_values : List (List ℕ × Datum) → Columns → Columns
 with_values [] columns = columns
 with_values (value ∷ values) columns = with_values values (insert columns value.0 value.1)
+
+-- a value with the name of its column
+abbrev pub named_value : List ℕ → Result Datum OpError → Result (List ℕ × Datum) OpError
+named_value name value = result_map (λ datum. (name, datum)) value
+
+-- The columns that an object names, each with the value that its member gives; or the fault of the first member that has one.
+-- A tree has its members in ascending order of their names (RFC 7047, 5.1, <row>).
+abbrev pub row_read : (List ℕ → Data → Result Datum OpError) → Members → Result Columns OpError
+row_read value members =
+    result_map (λ values. with_values values empty)
+    (each_or_fault (λ m. named_value m.0 (value m.0 m.1)) (member_list members))
+
+-- the given columns, or the fault of the first that has one (RFC 7047, 5.1, <row>)
+abbrev pub given_values : (List ℕ → Column → Bool) → Names → Table → Members → Result Columns OpError
+given_values may_be names table members =
+    row_read (λ name d. given_value may_be names name (get table.columns name) d) members
 
 -- the columns with the given ones in their places (RFC 7047, 5.2.3)
 abbrev pub given_over : Columns → Columns → Columns

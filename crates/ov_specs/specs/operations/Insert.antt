@@ -1,22 +1,23 @@
 -- insert: makes a row of "row" and puts it under the identifier that it chooses, or that was drawn for it (RFC 7047, 5.2.1;
 -- ovsdb-server(7), 5.2.1).
-use Rattle.std.specs.Prelude.{ℕ, ◌&&◌, ◌||◌, not, List, [], ◌∷◌, Bool, if◌then◌else◌, Option, Some, None, is_some, codes, Result, Ok, Err}
-use Rattle.std.specs.FinMap.{empty, contains_key, insert, entries}
+use Rattle.std.specs.Prelude.{ℕ, ◌&&◌, ◌||◌, not, List, [], ◌∷◌, filter, Bool, if◌then◌else◌, Option, Some, None, is_some, codes, Result, Ok, Err}
+use Rattle.std.specs.FinMap.{contains_key, insert}
 use Rattle.serde_json.specs.Data.{Data, Members}
 use Rattle.serde_json.specs.Find as find
 use Rattle.serde_json.specs.Find.{as_str}
-use Rattle.ov_specs.specs.operations.Errors.{OpError, SyntaxError, DuplicateName, DuplicateUuid, ConstraintViolation, ResourcesExhausted}
-use Rattle.ov_specs.specs.operations.GivenRow.{may_be_new, given_values, with_column, and_then_columns}
+use Rattle.ov_specs.specs.operations.Errors.{OpError, SyntaxError, DuplicateName, DuplicateUuid, ConstraintViolation}
+use Rattle.ov_specs.specs.operations.GivenRow.{may_be_new, given_values, with_values, named_value}
 use Rattle.ov_specs.specs.operations.InsertedIds.{id_read}
 use Rattle.ov_specs.specs.operations.NamedUuids.{is_declared_before, id_at}
 use Rattle.ov_specs.specs.operations.Members.{object_at}
 use Rattle.ov_specs.specs.operations.OpOutcome.{OpContext, OpOutcome, Done, Fault, names_in, some_or_fault, ok_or_fault, unless_fault, on_table}
 use Rattle.ov_specs.specs.rows.Database.{Columns, Database, object_of}
 use Rattle.ov_specs.specs.rows.Lines.{LineKey}
-use Rattle.ov_specs.specs.rows.RowNames.{is_own_column}
+use Rattle.ov_specs.specs.rows.RowNames.{row_columns}
 use Rattle.ov_specs.specs.rows.Version.{row_now}
 use Rattle.ov_specs.specs.schema.Fitting.{fits, default_of}
 use Rattle.ov_specs.specs.schema.SchemaTypes.{Column, Table}
+use Rattle.ov_specs.specs.values.Results.{result_map, result_and_then, each_or_fault}
 use Rattle.ov_specs.specs.values.Uuid.{Uuid, is_id, Names}
 use Rattle.ov_specs.specs.values.Value as value
 use Rattle.ov_specs.specs.values.Value.{Datum}
@@ -48,16 +49,19 @@ name_fault c place (Some d) = name_text_fault c place (as_str d)
 abbrev pub fitting_default : Column → Result Datum OpError
 fitting_default column = if fits column.type_of (default_of column.type_of) then Ok (default_of column.type_of) else Err ConstraintViolation
 
--- the columns with the defaults of those that were not given (RFC 7047, 5.2.1)
-abbrev pub with_defaults : List (List ℕ × Column) → Columns → Result Columns OpError
-with_defaults [] columns = Ok columns
-with_defaults (c ∷ cs) columns =
-    if is_own_column c.0 || contains_key columns c.0 then with_defaults cs columns
-    else with_column (fitting_default c.1) (λ datum. with_defaults cs (insert columns c.0 datum))
+-- the columns that a new row has and that are not given (RFC 7047, 5.2.1)
+abbrev pub not_given : Table → Columns → List (List ℕ × Column)
+not_given table given = filter (λ c. not (contains_key given c.0)) (row_columns table)
+
+-- the given columns, and the defaults of the others, or the fault of the first that has one (RFC 7047, 5.2.1)
+abbrev pub with_defaults : Table → Columns → Result Columns OpError
+with_defaults table given =
+    result_map (λ defaults. with_values defaults given)
+    (each_or_fault (λ c. named_value c.0 (fitting_default c.1)) (not_given table given))
 
 -- all columns of a new row: those that are given, and then the defaults of the others (RFC 7047, 5.2.1)
 abbrev pub new_row : Names → Table → Members → Result Columns OpError
-new_row names table members = and_then_columns (given_values may_be_new names table members empty) (λ columns. with_defaults (entries table.columns) columns)
+new_row names table members = result_and_then (with_defaults table) (given_values may_be_new names table members)
 
 -- ---- the operation
 
@@ -70,10 +74,9 @@ insert_result id = object_of ((codes "uuid", atom_tree (value.Uuid id)) ∷ [])
 abbrev pub is_taken : OpContext → Database → LineKey → Bool → Bool
 is_taken c rows key is_chosen = contains_key rows key || (is_chosen && contains_key c.before key)
 
--- Puts the row under its identifier, which may not be taken. One is drawn for each insert, so there always is one.
-abbrev pub put_new : OpContext → Database → List ℕ → Columns → Bool → Option Uuid → OpOutcome
-put_new c rows table columns is_chosen None = Fault ResourcesExhausted
-put_new c rows table columns is_chosen (Some id) =
+-- puts the row under its identifier, which may not be taken (RFC 7047, 5.2.1)
+abbrev pub put_new : OpContext → Database → List ℕ → Columns → Bool → Uuid → OpOutcome
+put_new c rows table columns is_chosen id =
     if is_taken c rows (table, id) is_chosen then Fault DuplicateUuid
     else Done (insert_result id) (insert rows (table, id) (row_now c.before c.version (table, id) columns))
 

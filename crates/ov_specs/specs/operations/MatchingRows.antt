@@ -1,10 +1,10 @@
 -- The rows that an operation is about, and what it leaves of them (RFC 7047, 5.2.2 to 5.2.5).
-use Rattle.std.specs.Prelude.{ℕ, ◌&&◌, List, [], ◌∷◌, ◌++◌, filter, Bool, codes, Result, Ok, Err}
+use Rattle.std.specs.Prelude.{ℕ, ◌&&◌, List, [], ◌∷◌, filter, Bool, codes, Result}
 use Rattle.std.specs.List.{list_all}
 use Rattle.std.specs.FinMap.{insert, remove, entries}
 use Rattle.std.specs.Str.{bytes_eq}
-use Rattle.serde_json.specs.Data.{Data, number, unsigned, Items, no_items, item}
-use Rattle.ov_specs.specs.operations.Conditions.{Condition, ConditionFault, condition_error, condition_read, entry_value, holds}
+use Rattle.serde_json.specs.Data.{Data, number, unsigned, Items}
+use Rattle.ov_specs.specs.operations.Conditions.{Condition, condition_error, condition_read, entry_value, holds}
 use Rattle.ov_specs.specs.operations.Errors.{OpError, SyntaxError}
 use Rattle.ov_specs.specs.operations.Members.{array_at}
 use Rattle.ov_specs.specs.operations.OpOutcome.{OpContext, OpOutcome, names_in, some_or_fault, ok_or_fault}
@@ -12,25 +12,17 @@ use Rattle.ov_specs.specs.rows.Database.{Columns, Row, Database, object_of}
 use Rattle.ov_specs.specs.rows.Lines.{LineKey}
 use Rattle.ov_specs.specs.rows.Version.{row_now}
 use Rattle.ov_specs.specs.schema.SchemaTypes.{Table}
+use Rattle.ov_specs.specs.values.Results.{result_map_err, each_or_fault}
 use Rattle.ov_specs.specs.values.Uuid.{Names}
+use Rattle.ov_specs.specs.wire.Tree.{item_list}
 
 -- ---- the conditions
-
--- these conditions in front of the others, or the error of the others
-abbrev pub and_others : List Condition → Result (List Condition) OpError → Result (List Condition) OpError
-and_others conditions (Err error) = Err error
-and_others conditions (Ok others) = Ok (conditions ++ others)
-
--- a condition in front of the others, or its fault
-abbrev pub and_condition : Result Condition ConditionFault → Result (List Condition) OpError → Result (List Condition) OpError
-and_condition (Err fault) others = Err (condition_error fault)
-and_condition (Ok condition) others = and_others (condition ∷ []) others
 
 -- The conditions of a "where", each read wholly before the next one, or the error of the first that does not read (RFC 7047,
 -- 5.2.2; the order is this server's).
 abbrev pub conditions_read : Names → Table → Items → Result (List Condition) OpError
-conditions_read names table no_items = Ok []
-conditions_read names table (item d ds) = and_condition (condition_read names table d) (conditions_read names table ds)
+conditions_read names table items =
+    each_or_fault (λ d. result_map_err condition_error (condition_read names table d)) (item_list items)
 
 -- The conditions of "where", which is an array of them; each is read wholly before the next one (RFC 7047, 5.2.2).
 abbrev pub on_conditions : OpContext → Table → Data → (List Condition → OpOutcome) → OpOutcome

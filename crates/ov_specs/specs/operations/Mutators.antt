@@ -1,9 +1,9 @@
 -- The mutations of a "mutate", and what they make of a column (RFC 7047, 5.1, <mutation>).
-use Rattle.std.specs.Prelude.{ℕ, ℤ, pos, ◌+ℤ◌, ◌-ℤ◌, ◌*ℤ◌, int_div, int_rem, int_le, ◌&&◌, ◌||◌, not, is_none, is_some, List, [], ◌∷◌, ◌++◌, map, filter, Bool, false, if◌then◌else◌, Option, Some, None, option_and_then, codes, Result, Ok, Err}
+use Rattle.std.specs.Prelude.{ℕ, ℤ, ◌+ℤ◌, ◌-ℤ◌, ◌*ℤ◌, int_div, int_rem, ◌&&◌, ◌||◌, not, is_none, is_some, List, [], ◌∷◌, ◌++◌, map, filter, Bool, false, if◌then◌else◌, Option, Some, None, option_and_then, codes, Result, Ok, Err}
 use Rattle.std.specs.List.{list_any, list_all}
 use Rattle.std.specs.FinMap.{get, contains_key, keys, entries}
 use Rattle.serde_json.specs.Data.{Data}
-use Rattle.ov_specs.specs.operations.Conditions.{Triple, triple_read, is_scalar, is_integers, number_in, has_pair}
+use Rattle.ov_specs.specs.operations.Conditions.{Triple, triple_read, is_zero, is_scalar, is_integers, number_in, has_pair}
 use Rattle.ov_specs.specs.rows.Database.{same_atom}
 use Rattle.ov_specs.specs.schema.Fitting.{fits}
 use Rattle.ov_specs.specs.schema.Schema.{is_empty}
@@ -12,6 +12,7 @@ use Rattle.ov_specs.specs.operations.Errors.{OpError, SyntaxError, UnknownColumn
 use Rattle.ov_specs.specs.values.Reading as reading
 use Rattle.ov_specs.specs.values.Reading.{Reading, Reads, tagged, reads}
 use Rattle.ov_specs.specs.schema.SchemaTypes.{ColumnType, Column, Table, kinds_of}
+use Rattle.ov_specs.specs.values.Results.{result_map}
 use Rattle.ov_specs.specs.values.Uuid.{Names}
 use Rattle.ov_specs.specs.values.Value.{Integers, is_in_64_bits, is_atom_of, is_of, Single, Pair, Kinds, Atom, Integer, Boolean, Text, Uuid, Datum, Atoms, Pairs, set_of, map_of}
 
@@ -114,8 +115,7 @@ change_read names t Deletes d = change_with Delete (reads names (deleted_kinds (
 
 -- the mutation of this column
 abbrev pub with_change : List ℕ → ColumnType → Result Change MutationFault → Result Mutation MutationFault
-with_change column t (Err fault) = Err fault
-with_change column t (Ok change) = Ok (record { column = column; type_of = t; change = change })
+with_change column t change = result_map (λ made. record { column = column; type_of = t; change = made }) change
 
 -- the mutation with this mutator (RFC 7047, 5.1, <mutation>)
 abbrev pub with_mutator : Names → ColumnType → Triple → Option Mutator → Result Mutation MutationFault
@@ -171,10 +171,6 @@ computed_atom operator by (Integer n) = Integer (computed operator by n)
 computed_atom operator by (Boolean b) = Boolean b
 computed_atom operator by (Text text) = Text text
 computed_atom operator by (Uuid bytes) = Uuid bytes
-
--- the number 0
-abbrev is_zero : ℤ → Bool
-is_zero n = int_le (pos 0) n && int_le n (pos 0)
 
 -- a division by zero (RFC 7047, 5.2.4, "domain error")
 abbrev pub divides_by_zero : Operator → ℤ → Bool

@@ -1,11 +1,11 @@
 -- Names for the rows that a transaction inserts (RFC 7047, 5.1, <named-uuid>, and 5.2.1).
-use Rattle.std.specs.Prelude.{ℕ, zero, suc, ◌+◌, nat_lt, ◌&&◌, Bool, List, if◌then◌else◌, slice_get, Option, Some, None, option_map, option_and_then, codes}
+use Rattle.std.specs.Prelude.{ℕ, zero, suc, ◌+◌, nat_lt, ◌&&◌, Bool, List, if◌then◌else◌, Option, Some, None, option_map, codes}
 use Rattle.std.specs.Str.{bytes_eq}
 use Rattle.serde_json.specs.Data.{Data, Items, no_items, item}
 use Rattle.ov_specs.specs.operations.Members.{text_at}
 use Rattle.ov_specs.specs.operations.Draws.{is_insert}
 use Rattle.ov_specs.specs.schema.Schema.{is_some_and}
-use Rattle.ov_specs.specs.values.Uuid.{Uuid, is_id, Names}
+use Rattle.ov_specs.specs.values.Uuid.{Uuid, uuid_at, is_id, Names}
 
 -- An insert whose "uuid-name" is this <id>. The tree alone declares the name, whatever comes of the insert; in another
 -- operation the member is ignored (RFC 7047, 5.2.1).
@@ -28,10 +28,10 @@ inserts_before zero (item d operations) = 0
 inserts_before (suc place) (item d operations) = (if is_insert d then 1 else 0) + inserts_before place operations
 
 -- the identifier of the insert at this place, of those of all inserts in order
-abbrev pub id_at : List Uuid → Items → ℕ → Option Uuid
-id_at ids operations place = slice_get ids (inserts_before place operations)
+abbrev pub id_at : List Uuid → Items → ℕ → Uuid
+id_at ids operations place = uuid_at ids (inserts_before place operations)
 
 -- What a name stands for in the whole transaction, even before the operation that declares it: the row of the first insert
 -- with this "uuid-name" (RFC 7047, 5.1, <named-uuid>).
 abbrev pub uuids_named : List Uuid → Items → Names
-uuids_named ids operations name = option_and_then (id_at ids operations) (place_declared name operations)
+uuids_named ids operations name = option_map (id_at ids operations) (place_declared name operations)

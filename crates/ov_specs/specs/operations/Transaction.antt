@@ -1,6 +1,6 @@
 -- One transaction: its operations in order, each on the rows that those before it left, and its commit; a wait may block it
 -- (RFC 7047, 4.1.3 and 5.2).
-use Rattle.std.specs.Prelude.{ℕ, ◌+◌, ◌||◌, Bool, false, List, [], ◌∷◌, Option, Result, Ok, Err, codes}
+use Rattle.std.specs.Prelude.{ℕ, ◌+◌, ◌||◌, Bool, false, List, drop, Option, Result, Ok, Err, codes}
 use Rattle.serde_json.specs.Data.{Data, null, Items, no_items, item}
 use Rattle.ov_specs.specs.integrity.Committed.{committed}
 use Rattle.ov_specs.specs.operations.Errors.{OpError, ResourcesExhausted, InputOutput, error_tree}
@@ -9,7 +9,7 @@ use Rattle.ov_specs.specs.operations.Operation.{outcome_of}
 use Rattle.ov_specs.specs.operations.OpOutcome.{Owns, OpContext, OpOutcome, Done, Fault, Blocked}
 use Rattle.ov_specs.specs.rows.Database.{Database}
 use Rattle.ov_specs.specs.schema.SchemaTypes.{Schema}
-use Rattle.ov_specs.specs.values.Uuid.{Uuid}
+use Rattle.ov_specs.specs.values.Uuid.{Uuid, uuid_at}
 use Rattle.ov_specs.specs.wire.Message.{has_member}
 
 -- ---- what it does
@@ -48,13 +48,22 @@ abbrev pub performed : OpContext → ℕ → Items → Database → TransactionO
 performed c place no_items rows = ended c.before (committed c.schema c.before c.version rows)
 performed c place (item d operations) rows = after c.before (outcome_of c place rows d) operations (performed c (place + 1) operations)
 
--- A transaction of this age on the database, of a session that owns these locks. The first draw is the version of the rows
--- that it changes, the others are for its inserts, one each (RFC 7047, 4.1.3 and 5.2.1). Without a draw it does nothing;
--- there always is one.
+-- The context of a transaction's operations. The first draw is the version of the rows that it changes, the others are for its
+-- inserts, one each (RFC 7047, 4.1.3 and 5.2.1).
+abbrev pub op_context : Schema → Database → Owns → List Uuid → ℕ → Items → OpContext
+op_context schema before owns draws age operations = record {
+  schema = schema;
+  before = before;
+  owns = owns;
+  version = uuid_at draws 0;
+  ids = inserted_ids (drop 1 draws) operations;
+  operations = operations;
+  age = age;
+}
+
+-- a transaction of this age on the database, of a session that owns these locks, with these draws (RFC 7047, 4.1.3)
 abbrev pub transaction : Schema → Database → Owns → List Uuid → ℕ → Items → TransactionOutcome
-transaction schema before owns [] age operations = Completes no_items before
-transaction schema before owns (version ∷ draws) age operations =
-    performed (record { schema = schema; before = before; owns = owns; version = version; ids = inserted_ids draws operations; operations = operations; age = age }) 0 operations before
+transaction schema before owns draws age operations = performed (op_context schema before owns draws age operations) 0 operations before
 
 -- one of the results has an error (RFC 7047, 4.1.3)
 abbrev pub has_error : Items → Bool

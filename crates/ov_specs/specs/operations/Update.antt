@@ -1,6 +1,5 @@
 -- update: gives these values to the rows that match (RFC 7047, 5.2.3).
 use Rattle.std.specs.Prelude.{List, map, length, codes}
-use Rattle.std.specs.FinMap.{empty}
 use Rattle.serde_json.specs.Data.{Data}
 use Rattle.ov_specs.specs.operations.Errors.{SyntaxError}
 use Rattle.ov_specs.specs.operations.GivenRow.{may_be_changed, given_values, given_over}
@@ -22,4 +21,4 @@ updated c given found rows = Done (count_result (length found)) (put_rows c (map
 abbrev pub update_outcome : OpContext → Database → Data → OpOutcome
 update_outcome c rows d = on_table c d (λ name table. on_conditions c table d (λ conditions.
     some_or_fault (object_at (codes "row") d) SyntaxError (λ members.
-    ok_or_fault (given_values may_be_changed (names_in c) table members empty) (λ given. updated c given (matching rows name conditions) rows))))
+    ok_or_fault (given_values may_be_changed (names_in c) table members) (λ given. updated c given (matching rows name conditions) rows))))

@@ -1,15 +1,15 @@
 -- wait: until the rows that match are, or are not, the given ones (RFC 7047, 5.2.6).
-use Rattle.std.specs.Prelude.{ℕ, ℤ, pos, negsuc, ◌&&◌, not, nat_le, List, [], ◌∷◌, map, Bool, if◌then◌else◌, Option, Some, None, option_map, option_and_then, option_to_list, unwrap_or, codes, Result, Ok, Err}
-use Rattle.std.specs.List.{filter, flat_map, list_all, list_any}
-use Rattle.std.specs.FinMap.{empty, get, insert, keys}
+use Rattle.std.specs.Prelude.{ℕ, ℤ, pos, negsuc, ◌&&◌, not, nat_le, List, map, Bool, if◌then◌else◌, Option, Some, None, option_map, option_and_then, option_to_list, unwrap_or, ok_or, codes, Result, Ok, Err}
+use Rattle.std.specs.List.{flat_map, list_all, list_any}
+use Rattle.std.specs.FinMap.{get}
 use Rattle.std.specs.Str.{bytes_eq}
-use Rattle.serde_json.specs.Data.{Data, Items, no_items, item, Members, no_members, member}
+use Rattle.serde_json.specs.Data.{Data, Items, Members}
 use Rattle.serde_json.specs.Find as find
 use Rattle.serde_json.specs.Find.{as_number, as_object, as_str}
 use Rattle.ov_specs.specs.operations.Errors.{OpError, SyntaxError, ConstraintViolation, TimedOut}
 use Rattle.ov_specs.specs.operations.MatchingRows.{on_conditions, matching}
-use Rattle.ov_specs.specs.rows.RowNames.{is_own_column}
-use Rattle.ov_specs.specs.operations.GivenRow.{with_column}
+use Rattle.ov_specs.specs.rows.RowNames.{row_names}
+use Rattle.ov_specs.specs.operations.GivenRow.{row_read}
 use Rattle.ov_specs.specs.operations.Select.{projection, listed_columns}
 use Rattle.ov_specs.specs.operations.Members.{text_at, array_at}
 use Rattle.ov_specs.specs.operations.OpOutcome.{OpContext, OpOutcome, Done, Fault, Blocked, names_in, empty_result, some_or_fault, ok_or_fault, on_table}
@@ -18,8 +18,10 @@ use Rattle.ov_specs.specs.schema.Fitting.{default_of}
 use Rattle.ov_specs.specs.schema.SchemaTypes.{Column, Table, kinds_of}
 use Rattle.ov_specs.specs.values.Reading as reading
 use Rattle.ov_specs.specs.values.Reading.{Reading, Reads, integer_read, list_read, reads}
+use Rattle.ov_specs.specs.values.Results.{result_map, result_and_then, each_or_fault}
 use Rattle.ov_specs.specs.values.Uuid.{Names}
 use Rattle.ov_specs.specs.values.Value.{Datum}
+use Rattle.ov_specs.specs.wire.Tree.{item_list}
 
 -- ---- its members
 
@@ -40,7 +42,7 @@ timeout_read (Some d) = known_timeout (option_and_then natural (option_and_then 
 
 -- the compared columns; without "columns", all but `_uuid` and `_version` (RFC 7047, 5.2.6; the default is this server's)
 abbrev pub compared_columns : Table → Option Data → Result (List (List ℕ)) OpError
-compared_columns table None = Ok (filter (λ name. not (is_own_column name)) (keys table.columns))
+compared_columns table None = Ok (row_names table)
 compared_columns table (Some d) = listed_columns table (list_read as_str d)
 
 -- what is waited for: that the rows are equal, or that they are not (RFC 7047, 5.2.6)
@@ -66,11 +68,10 @@ told_value names compared name None d = Err SyntaxError
 told_value names compared name (Some column) d =
     if list_any (bytes_eq name) compared then unfitted (reads names (kinds_of column.type_of) d) else Err SyntaxError
 
--- the given values, in ascending order of their names, or the fault of the first that has one
-abbrev pub told_values : Names → Table → List (List ℕ) → Members → Columns → Result Columns OpError
-told_values names table compared no_members columns = Ok columns
-told_values names table compared (member name d members) columns =
-    with_column (told_value names compared name (get table.columns name) d) (λ datum. told_values names table compared members (insert columns name datum))
+-- the given values, or the fault of the first that has one (RFC 7047, 5.1, <row>)
+abbrev pub told_values : Names → Table → List (List ℕ) → Members → Result Columns OpError
+told_values names table compared members =
+    row_read (λ name d. told_value names compared name (get table.columns name) d) members
 
 -- the value given for a column, or else its default: that of `_uuid` and of `_version` is the zero UUID (RFC 7047, 5.2.1)
 abbrev pub told_or_default : Table → Columns → List ℕ → Option Datum
@@ -80,21 +81,14 @@ told_or_default table told name = option_map (λ column. unwrap_or (get told nam
 abbrev pub told_projection : Table → List (List ℕ) → Columns → List (List ℕ × Datum)
 told_projection table compared told = flat_map (λ name. option_to_list (option_map (λ datum. (name, datum)) (told_or_default table told name))) compared
 
--- a row in front of the others, or the fault of the first that has one
-abbrev pub and_told : Table → List (List ℕ) → Result Columns OpError → Result (List (List (List ℕ × Datum))) OpError → Result (List (List (List ℕ × Datum))) OpError
-and_told table compared (Err error) others = Err error
-and_told table compared (Ok told) (Err error) = Err error
-and_told table compared (Ok told) (Ok others) = Ok (told_projection table compared told ∷ others)
-
--- a row is an object (RFC 7047, 5.1, <row>)
-abbrev pub told_row : Names → Table → List (List ℕ) → Option Members → Result Columns OpError
-told_row names table compared None = Err SyntaxError
-told_row names table compared (Some members) = told_values names table compared members empty
+-- the values of a given row, which is an object (RFC 7047, 5.1, <row>)
+abbrev pub told_row : Names → Table → List (List ℕ) → Data → Result Columns OpError
+told_row names table compared d = result_and_then (told_values names table compared) (ok_or (as_object d) SyntaxError)
 
 -- the rows of "rows", each read wholly before the next one (RFC 7047, 5.2.6; the order is this server's)
 abbrev pub told_rows : Names → Table → List (List ℕ) → Items → Result (List (List (List ℕ × Datum))) OpError
-told_rows names table compared no_items = Ok []
-told_rows names table compared (item d ds) = and_told table compared (told_row names table compared (as_object d)) (told_rows names table compared ds)
+told_rows names table compared items =
+    each_or_fault (λ d. result_map (told_projection table compared) (told_row names table compared d)) (item_list items)
 
 -- ---- what comes of it
 

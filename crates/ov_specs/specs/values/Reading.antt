@@ -1,6 +1,6 @@
 -- What a JSON tree stands for, as an atom and as a value (RFC 7047, 5.1).
 use Rattle.std.specs.Prelude.{ℤ, ◌&&◌, ◌||◌, not, ℕ, List, [], ◌∷◌, Bool, false, if◌then◌else◌, Option, Some, None, option_map, option_and_then, codes}
-use Rattle.std.specs.Option.{option_or}
+use Rattle.std.specs.Option.{option_or, option_zip}
 use Rattle.std.specs.List.{list_any}
 use Rattle.std.specs.Ordering.{eq_by_cmp}
 use Rattle.std.specs.Str.{bytes_eq}
@@ -78,15 +78,9 @@ in_front None rest = None
 in_front (Some a) None = None
 in_front (Some a) (Some rest) = Some (a ∷ rest)
 
--- the two, if both are there
-abbrev pub both : {A B : Type 0} → Option A → Option B → Option (A × B)
-both None b = None
-both (Some a) None = None
-both (Some a) (Some b) = Some (a, b)
-
 -- [key,value] (RFC 7047, 5.1, <pair>)
 abbrev pub pair_read : Names → AtomKind → AtomKind → Data → Option (Atom × Atom)
-pair_read names key value d = option_and_then (λ p. both (atom_read names key p.0) (atom_read names value p.1)) (as_two d)
+pair_read names key value d = option_and_then (λ p. option_zip (atom_read names key p.0) (atom_read names value p.1)) (as_two d)
 
 -- each item, if all of them read
 abbrev pub each_read : {A : Type 0} → (Data → Option A) → Items → Option (List A)

@@ -1,5 +1,5 @@
 -- Identifiers, and the names that stand for them in a transaction.
-use Rattle.std.specs.Prelude.{◌≡◌, ◌&&◌, ◌||◌, ◌==◌, ℕ, nat_lt, nat_le, List, [], ◌∷◌, length, Bool, true, false, Option, Some, None}
+use Rattle.std.specs.Prelude.{◌≡◌, ◌&&◌, ◌||◌, ◌==◌, ℕ, nat_lt, nat_le, List, [], ◌∷◌, length, slice_get, Bool, true, false, Option, Some, None, unwrap_or}
 use Rattle.std.specs.List.{list_all}
 
 -- the sixteen bytes of an identifier, most significant first (RFC 4122, 4.1.2)
@@ -13,6 +13,10 @@ is_uuid bytes = (length bytes == 16) && list_all (λ b. nat_lt b 256) bytes
 -- the nil UUID (RFC 4122, 4.1.7)
 abbrev pub zero_uuid : Uuid
 zero_uuid = 0 ∷ 0 ∷ 0 ∷ 0 ∷ 0 ∷ 0 ∷ 0 ∷ 0 ∷ 0 ∷ 0 ∷ 0 ∷ 0 ∷ 0 ∷ 0 ∷ 0 ∷ 0 ∷ []
+
+-- the identifier at this place of a list, from 0, or the nil UUID if the list is too short
+abbrev pub uuid_at : List Uuid → ℕ → Uuid
+uuid_at ids place = unwrap_or (slice_get ids place) zero_uuid
 
 -- a letter or an underscore (RFC 7047, 3.1, <id>)
 abbrev pub begins_id : ℕ → Bool

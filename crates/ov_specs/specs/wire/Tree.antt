@@ -1,7 +1,21 @@
--- Which JSON trees have reals.
-use Rattle.std.specs.Prelude.{◌||◌, Bool, false, is_none}
+-- The parts of JSON trees as lists, and which trees have reals.
+use Rattle.std.specs.Prelude.{ℕ, ◌||◌, Bool, false, is_none, List, [], ◌∷◌}
 use Rattle.serde_json.specs.Data.{Num, Data, null, boolean, number, string, array, object, Items, no_items, item, Members, no_members, member}
 use Rattle.serde_json.specs.Find.{as_i64}
+
+-- ---- parts
+
+-- the items of an array
+abbrev pub item_list : Items → List Data
+item_list no_items = []
+item_list (item d ds) = d ∷ item_list ds
+
+-- the members of an object, each with its name, in ascending order of the names
+abbrev pub member_list : Members → List (List ℕ × Data)
+member_list no_members = []
+member_list (member name d members) = (name, d) ∷ member_list members
+
+-- ---- reals
 
 -- a number that is no integer from -2^63 to 2^63-1 (RFC 7047, 3.1 has reals, which this server leaves out)
 abbrev pub is_real : Num → Bool

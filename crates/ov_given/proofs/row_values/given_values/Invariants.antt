@@ -1,11 +1,17 @@
-use Rattle.std.proofs.Common.{◌≡◌}
-use Rattle.std.specs.FinMap.{empty}
+use Rattle.std.proofs.Common.{◌≡◌, ℕ, List}
+use Rattle.std.specs.FinMap.{get}
+use Rattle.std.specs.Prelude.{Result}
+use Rattle.serde_json.specs.Data.{Data}
 use Rattle.serde_json.specs.View.{members_view}
+use Rattle.ov_specs.specs.operations.Errors.{OpError}
 use Rattle.ov_specs.specs.operations.GivenRow as rows
+use Rattle.ov_specs.specs.values.Value.{Datum}
+use Rattle.ov_specs.proofs.laws.RowReading.{read_to}
 use Rattle.ov_given.specs.Rows.{may_be}
 use Rattle.ov_given.proofs.row_values.given_values.Given as goal
 
 abbrev pub invariant-loop-name : goal.invariant-loop-name
 invariant-loop-name g l =
     let names = g.N.Names.names l.names in
-    rows.given_values (may_be l.row) names l.table (members_view l.members.entries) empty ≡ rows.given_values (may_be l.row) names l.table (members_view l.name-iterator) l.values
+    let value : List ℕ → Data → Result Datum OpError = λ name d. rows.given_value (may_be l.row) names name (get l.table.columns name) d in
+    rows.given_values (may_be l.row) names l.table (members_view l.members.entries) ≡ read_to value (members_view l.name-iterator) l.values

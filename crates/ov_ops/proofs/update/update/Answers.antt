@@ -8,7 +8,6 @@ use Rattle.ov_specs.specs.operations.OpOutcome.{OpContext, OpOutcome}
 use Rattle.ov_specs.specs.rows.Database.{Database, Columns}
 use Rattle.ov_specs.specs.schema.SchemaTypes.{Table}
 use Rattle.std.proofs.Common.{codes}
-use Rattle.std.specs.FinMap.{empty}
 use Rattle.ov_specs.specs.operations.Errors.{SyntaxError}
 use Rattle.ov_specs.specs.operations.GivenRow.{may_be_changed, given_values}
 use Rattle.ov_specs.specs.operations.Members.{object_at}
@@ -20,7 +19,7 @@ use Rattle.ov_ops.proofs.update.update.Goals as goal
 
 -- from the conditions on, and from the table on
 abbrev from_conditions : OpContext → Database → Data → List ℕ → Table → List Condition → OpOutcome
-from_conditions t rows d name table conditions = some_or_fault (object_at (codes "row") d) SyntaxError (λ members. ok_or_fault (given_values may_be_changed (names_in t) table members empty) (λ given. updated t given (matching rows name conditions) rows))
+from_conditions t rows d name table conditions = some_or_fault (object_at (codes "row") d) SyntaxError (λ members. ok_or_fault (given_values may_be_changed (names_in t) table members) (λ given. updated t given (matching rows name conditions) rows))
 
 abbrev from_table : OpContext → Database → Data → List ℕ → Table → OpOutcome
 from_table t rows d name table = on_conditions t table d (from_conditions t rows d name table)
@@ -59,6 +58,6 @@ returns-in_err-given-clause-done g c =
     let found : object_at (codes "row") d ≡ Some members = search rules in
     let next = from_given t rows name conditions in
     let e = c.in_ok-name.ensures before (from_table t rows d) ∙ c.in_ok-conditions.ensures before (from_conditions t rows d name table)
-    ∙ ap (λ (o : Option Members). some_or_fault o SyntaxError (λ ms. ok_or_fault (given_values may_be_changed (names_in t) table ms empty) next)) found in
+    ∙ ap (λ (o : Option Members). some_or_fault o SyntaxError (λ ms. ok_or_fault (given_values may_be_changed (names_in t) table ms) next)) found in
     let p = err_from_is_err_and c.from_residual-in_err-given.result c.from_residual-in_err-given.ensures.1 in
-    rw (p.1, p.2) (stops _ _ c.in_err-given.field-0.0 rows e (refuses (given_values may_be_changed (names_in t) table members empty) (λ (v : Columns). v) next c.in_err-given.field-0.0 c.in_err-given.ensures))
+    rw (p.1, p.2) (stops _ _ c.in_err-given.field-0.0 rows e (refuses (given_values may_be_changed (names_in t) table members) (λ (v : Columns). v) next c.in_err-given.field-0.0 c.in_err-given.ensures))

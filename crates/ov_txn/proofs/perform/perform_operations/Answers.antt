@@ -15,9 +15,9 @@ use Rattle.ov_specs.specs.operations.OpOutcome.{OpContext, Done, Fault}
 use Rattle.ov_specs.specs.operations.Transaction.{TransactionOutcome, Completes, transaction, and_item}
 use Rattle.ov_specs.specs.rows.Database.{Database}
 use Rattle.ov_specs.specs.rows.Suits.{Suits}
-use Rattle.ov_specs.specs.values.Uuid.{Uuid, is_uuid}
+use Rattle.ov_specs.specs.values.Uuid.{is_uuid, uuid_at}
 use Rattle.ov_specs.proofs.laws.Committing.{IsWhole, whole_is}
-use Rattle.ov_specs.proofs.laws.FoundRows.{inserted_are}
+use Rattle.ov_specs.proofs.laws.FoundRows.{at_is_uuid, inserted_are, others_are}
 use Rattle.ov_specs.proofs.laws.OutcomeSuiting.{SuitsOutcome, outcome_suits}
 use Rattle.ov_given.specs.Naming.{Naming}
 use Rattle.ov_stage.specs.Staging.{Stage}
@@ -35,15 +35,18 @@ with_indexes-stage-requires-clause-apart g c =
 
 pub loop-place-init : goal.loop-place-init
 loop-place-init g c =
-    let version = c.in-Some.version.now in
-    let draws : c.args.txn.now.draws ≡ version ∷ c.in-Some.draws.now = sym c.draws.ensures ∙ c.in-Some.ensures.cases.0 in
-    let are = and_parts (is_uuid version) (list_all is_uuid c.in-Some.draws.now) (subst (λ (xs : List Uuid). list_all is_uuid xs ≡ true) draws c.requires.drawn) in
+    let draws = c.args.txn.now.draws in
     let operations = c.args.txn.now.operations in
-    let drawn = and_from (is_uuid version) (list_all is_uuid (inserted_ids c.in-Some.draws.now operations)) are.0 (inserted_are c.in-Some.draws.now operations are.1) in
+    let version : c.version_of-version.result ≡ uuid_at draws 0 = c.version_of-version.ensures ∙ ap (λ xs. uuid_at xs 0) c.draws.ensures in
+    let others : c.insert_draws.result.now ≡ drop 1 draws = c.insert_draws.ensures ∙ ap (λ xs. drop 1 xs) c.draws-2.ensures in
+    let ids = inserted_are (drop 1 draws) operations (others_are draws c.requires.drawn) in
+    let drawn = and_from (is_uuid (uuid_at draws 0)) (list_all is_uuid (inserted_ids (drop 1 draws) operations)) (at_is_uuid draws 0 c.requires.drawn) ids in
+    let inserts : ◌≡◌ {A = Naming} c.in_ok-inserts.inserts (record { ids = inserted_ids (drop 1 draws) operations; operations = operations }) =
+    c.in_ok-inserts.ensures ∙ (λ i. record { ids = inserted_ids (others i) (c.operations.ensures i); operations = c.operations.ensures i }) in
     record {
-      going = rw (draws, c.new-results.ensures, c.in_ok-inserts.ensures, c.with_indexes-stage.ensures, c.as_slice-operations.ensures.same, c.operations-2.ensures, c.operations.ensures) (prefixed_none _);
+      going = rw (version, c.new-results.ensures, inserts, c.with_indexes-stage.ensures, c.as_slice-operations.ensures.same, c.operations-2.ensures) (prefixed_none _);
       before = ap (λ (s : Stage). s.before) c.with_indexes-stage.ensures;
-      drawn = subst (λ (n : Naming). list_all is_uuid (version ∷ n.ids) ≡ true) (sym (c.in_ok-inserts.ensures ∙ ap (λ ds. record { ids = inserted_ids c.in-Some.draws.now ds; operations = ds }) c.operations.ensures)) drawn;
+      drawn = rw (version, inserts) drawn;
       suits = subst (λ (s : Stage). Suits c.args.schema.now s.now) (sym c.with_indexes-stage.ensures) c.requires.suits;
     }
 
@@ -55,7 +58,7 @@ returns-in-Fault g c =
     let i = c.loop-place.place in
     let within : i < length trees = c.loop-place-test.true in
     let tree = c.index-operations-place.result in
-    let context : Database → OpContext = λ db. record { schema = c.args.schema.now; before = db; owns = g.O.Owns.owned c.args.owns.now; version = c.in-Some.version.now; ids = c.in_ok-inserts.inserts.ids; operations = c.in_ok-inserts.inserts.operations; age = c.args.age } in
+    let context : Database → OpContext = λ db. record { schema = c.args.schema.now; before = db; owns = g.O.Owns.owned c.args.owns.now; version = c.version_of-version.result; ids = c.in_ok-inserts.inserts.ids; operations = c.in_ok-inserts.inserts.operations; age = c.args.age } in
     let error = error_view c.in-Fault.error in
     let all : TransactionOutcome = transaction c.args.schema.now before (g.O.Owns.owned c.args.owns.now) c.args.txn.now.draws c.args.age c.args.txn.now.operations in
     let fails : outcome_of (context before) i rows (view tree) ≡ Fault error = ap (λ (db : Database). outcome_of (context db) i rows (view tree)) (sym c.loop-place.invariant.before) ∙ c.in-Fault.ensures.done in
@@ -71,11 +74,11 @@ loop-place-preserved g c =
     let i = c.loop-place.place in
     let within : i < length trees = c.loop-place-test.true in
     let tree = c.index-operations-place.result in
-    let context : Database → OpContext = λ db. record { schema = c.args.schema.now; before = db; owns = g.O.Owns.owned c.args.owns.now; version = c.in-Some.version.now; ids = c.in_ok-inserts.inserts.ids; operations = c.in_ok-inserts.inserts.operations; age = c.args.age } in
+    let context : Database → OpContext = λ db. record { schema = c.args.schema.now; before = db; owns = g.O.Owns.owned c.args.owns.now; version = c.version_of-version.result; ids = c.in_ok-inserts.inserts.ids; operations = c.in_ok-inserts.inserts.operations; age = c.args.age } in
     let all : TransactionOutcome = transaction c.args.schema.now before (g.O.Owns.owned c.args.owns.now) c.args.txn.now.draws c.args.age c.args.txn.now.operations in
     let does : outcome_of (context before) i rows (view tree) ≡ Done c.in-Done.result c.run_op.new.stage.now =
     ap (λ (db : Database). outcome_of (context db) i rows (view tree)) (sym c.loop-place.invariant.before) ∙ c.in-Done.ensures.done in
-    let drawn = and_parts (is_uuid c.in-Some.version.now) (list_all is_uuid c.in_ok-inserts.inserts.ids) c.loop-place.invariant.drawn in
+    let drawn = and_parts (is_uuid c.version_of-version.result) (list_all is_uuid c.in_ok-inserts.inserts.ids) c.loop-place.invariant.drawn in
     record {
       going = rw c.in_ok-push-in-Done.ensures.ok (at_does (context before) all i rows (items_view (drop i trees)) c.loop-place.results c.loop-place.invariant.going (view tree) c.in-Done.result (items_view (drop (i + 1) trees)) c.run_op.new.stage.now
           (items_at trees i tree within c.index-operations-place.is) does);
@@ -96,7 +99,7 @@ returns g c =
     let before = c.args.rows.now in
     let trees = c.as_slice-operations.result.now in
     let i = c.loop-place.place in
-    let version = c.in-Some.version.now in
+    let version = c.version_of-version.result in
     let context : OpContext = record { schema = c.args.schema.now; before = before; owns = g.O.Owns.owned c.args.owns.now; version = version; ids = c.in_ok-inserts.inserts.ids; operations = c.in_ok-inserts.inserts.operations; age = c.args.age } in
     let all : TransactionOutcome = transaction c.args.schema.now before (g.O.Owns.owned c.args.owns.now) c.args.txn.now.draws c.args.age c.args.txn.now.operations in
     let ends = at_end context all i c.loop-place.stage.now (items_view (drop i trees)) c.loop-place.results c.loop-place.invariant.going (ap items_view (drop_all i trees (omega arith))) in
