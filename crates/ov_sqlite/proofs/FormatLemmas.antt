@@ -4,19 +4,19 @@ use mathlib.Core.Bool.{beq}
 use Rattle.sqlite.specs.Schema.{Schema}
 use Rattle.sqlite.specs.Order.{Row}
 use Rattle.sqlite.specs.Effect.{Database, IsDatabase}
-use Rattle.ov_specs.specs.rows.Cells.{Whole as WholeLines, InCells as LinesInCells}
+use Rattle.ov_specs.specs.rows.Cells.{Whole as WholeLines, InCells as LinesInCells, format_of}
 use Rattle.ov_keeper.specs.declared.keeper.Lines.{Lines}
 use Rattle.ov_keeper.specs.declared.keeper.Lines.TheVariants.{Whole, InCells}
 use Rattle.ov_keeper.specs.Views.{lines_view}
 use Rattle.ov_tables.specs.Tables.{meta_table, tree_of, HasTable, HasLineTables, HasCellTables, HasOurTables}
 use Rattle.ov_tables.specs.Format.{IsMeta, IsFormatRow, IsSchemaRow, NamesOther, held, rows_of_meta}
-use Rattle.ov_tables.specs.Holding.{IsStored, IsStoredAs}
+use Rattle.ov_tables.specs.Holding.{IsStoredAs}
 use Rattle.ov_sqlite.specs.Reading.{ReadsLines, are_cells}
-use Rattle.ov_sqlite.proofs.HeldLemmas.{schema_is, names_cells, names_lines, held_cells_meta}
+use Rattle.ov_sqlite.proofs.HeldLemmas.{schema_is, names_lines, held_cells_meta}
 
 -- ---- the number of the format
 
-pub known_number : (n : ℕ) (text : List ℕ) (rows : List Row) → IsMeta n text rows → (n ≡ 1) ⊎ (n ≡ 2)
+known_number : (n : ℕ) (text : List ℕ) (rows : List Row) → IsMeta n text rows → (n ≡ 1) ⊎ (n ≡ 2)
 known_number n text rows m = go m.are
   where
     go : (IsFormatRow n m.first × IsSchemaRow text m.second) ⊎ (IsSchemaRow text m.first × IsFormatRow n m.second) → (n ≡ 1) ⊎ (n ≡ 2)
@@ -57,21 +57,6 @@ tables_by schema true test ours = test.0 refl
 tables_by schema false test (inl lines) = lines
 tables_by schema false test (inr cells) = absurd (let clash : false ≡ true = test.1 cells in cc)
 
--- what is stored has its tables
-pub our_tables : (text : List ℕ) (db : Database) → IsStored text db → HasOurTables db.schema
-our_tables text db (inl lines) = inl lines.format.schema
-our_tables text db (inr cells) = inr cells.format.schema
-
--- what is stored has the tables of the format that `meta` names
-pub tables_named : (text t : List ℕ) (db : Database) (n : ℕ) → IsStored text db → IsMeta n t (rows_of_meta db.trees) → MatchBool (n == 2) (HasCellTables db.schema) (HasLineTables db.schema)
-tables_named text t db n stored m = go (known_number n t (rows_of_meta db.trees) m) stored
-  where
-    go : (n ≡ 1) ⊎ (n ≡ 2) → IsStored text db → MatchBool (n == 2) (HasCellTables db.schema) (HasLineTables db.schema)
-    go (inl e) (inl lines) = subst (λ k. MatchBool (k == 2) (HasCellTables db.schema) (HasLineTables db.schema)) (sym e) lines.format.schema
-    go (inr e) (inr cells) = subst (λ k. MatchBool (k == 2) (HasCellTables db.schema) (HasLineTables db.schema)) (sym e) cells.format.schema
-    go (inl e) (inr cells) = absurd (let clash : true ≡ false = sym (names_cells text (rows_of_meta db.trees) cells.format.meta) ∙ names_lines t (rows_of_meta db.trees) (subst (λ k. IsMeta k t (rows_of_meta db.trees)) e m) in cc)
-    go (inr e) (inl lines) = absurd (let clash : true ≡ false = sym (names_cells t (rows_of_meta db.trees) (subst (λ k. IsMeta k t (rows_of_meta db.trees)) e m)) ∙ names_lines text (rows_of_meta db.trees) lines.format.meta in cc)
-
 -- `meta` names the other format
 pub other_named : (db : Database) (n : ℕ) (t : List ℕ) (b : Bool) → MatchBool b (HasCellTables db.schema) (HasLineTables db.schema) → IsMeta n t (rows_of_meta db.trees) → ((n == 2) ≡ b → ⊥) → NamesOther db
 other_named db n t b tables m apart = go b tables apart (known_number n t (rows_of_meta db.trees) m)
@@ -94,14 +79,14 @@ read_held db n t (Whole lines) m is reads =
     let meta : IsMeta 1 t (rows_of_meta db.trees) = subst (λ k. IsMeta k t (rows_of_meta db.trees)) one m in
     rw (schema_is 1 t (rows_of_meta db.trees) meta, names_lines t (rows_of_meta db.trees) meta) (ap (λ l. record { schema = t; lines = WholeLines l }) reads.2)
 
--- what was read is stored so
+-- what was read is stored in the format of its lines
 pub read_stored : (db : Database) (n : ℕ) (t : List ℕ) (lines : Lines) → IsMeta n t (rows_of_meta db.trees) → are_cells lines ≡ (n == 2) → MatchBool (are_cells lines) (HasCellTables db.schema) (HasLineTables db.schema)
-    → ReadsLines db lines → IsDatabase db → IsStoredAs n t db
+    → ReadsLines db lines → IsDatabase db → IsStoredAs (format_of (lines_view lines)) t db
 read_stored db n t (InCells lines) m is tables reads sound =
     let two = two_by n (known_number n t (rows_of_meta db.trees) m) is in
     let meta : IsMeta 2 t (rows_of_meta db.trees) = subst (λ k. IsMeta k t (rows_of_meta db.trees)) two m in
     inr (
-      two,
+      refl,
       record {
         format = record { schema = tables; meta = meta; heads = reads.heads; cells = reads.cells; owned = reads.owned };
         heads_numbered = reads.heads_numbered;
@@ -112,4 +97,4 @@ read_stored db n t (InCells lines) m is tables reads sound =
 read_stored db n t (Whole lines) m is tables reads sound =
     let one = one_by n (known_number n t (rows_of_meta db.trees) m) is in
     let meta : IsMeta 1 t (rows_of_meta db.trees) = subst (λ k. IsMeta k t (rows_of_meta db.trees)) one m in
-    inl (one, record { format = record { schema = tables; meta = meta; lines = reads.0 }; numbered = reads.1; sound = sound })
+    inl (refl, record { format = record { schema = tables; meta = meta; lines = reads.0 }; numbered = reads.1; sound = sound })

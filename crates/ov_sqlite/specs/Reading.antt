@@ -8,14 +8,16 @@ use Rattle.sqlite.specs.Order.{Row}
 use Rattle.sqlite.specs.State.{State}
 use Rattle.std.specs.FinMap.{from_entries}
 use Rattle.sqlite.specs.Effect.{Database}
-use Rattle.ov_specs.specs.rows.Cells.{have_heads}
+use Rattle.ov_specs.specs.rows.Cells.{have_heads, format_of}
 use Rattle.ov_keeper.specs.declared.cell_line.CellLine.{CellLine}
 use Rattle.ov_keeper.specs.declared.keeper.Lines.{Lines}
 use Rattle.ov_keeper.specs.declared.keeper.Lines.TheVariants.{Whole, InCells}
-use Rattle.ov_keeper.specs.Views.{line_entry, cell_line_entry}
-use Rattle.ov_tables.specs.Tables.{HasLineTables, HasCellTables}
-use Rattle.ov_tables.specs.Format.{IsLine, IsHead, IsCell, entry, head_of, cell_of, stored_lines, stored_cells, rows_of_line, rows_of_head, rows_of_cell}
-use Rattle.ov_tables.specs.Holding.{IsNumbered}
+use Rattle.ov_keeper.specs.declared.keeper.Loaded.{Loaded}
+use Rattle.ov_keeper.specs.Keeping.{loaded_contents}
+use Rattle.ov_keeper.specs.Views.{line_entry, cell_line_entry, lines_view}
+use Rattle.ov_tables.specs.Tables.{HasLineTables, HasCellTables, HasOurTables}
+use Rattle.ov_tables.specs.Format.{IsLine, IsHead, IsCell, entry, head_of, cell_of, stored_lines, stored_cells, held, rows_of_line, rows_of_head, rows_of_cell}
+use Rattle.ov_tables.specs.Holding.{IsNumbered, IsStoredAs}
 use Rattle.ov_sqlite.specs.Joining.{AreNumbered}
 
 -- the value is no number
@@ -72,3 +74,13 @@ ReadsLines db (InCells lines) = ReadsCells db lines.items
 abbrev pub are_cells : Lines → Bool
 are_cells (Whole lines) = false
 are_cells (InCells lines) = true
+
+-- while the connection is open, the tables of a format are there
+abbrev pub MayHaveTables : State → Type 0
+MayHaveTables s = IsTrue s.is_open → HasOurTables s.now.schema
+
+-- the connection is open, its tables are those of the format of these lines, and this is what they hold
+pub record IsHeldBy (s : State) (loaded : Loaded) : Type 0 where
+  pub is_open : IsTrue s.is_open
+  pub stored : IsStoredAs (format_of (lines_view loaded.lines)) loaded.schema s.now
+  pub holds : held s.now.trees ≡ loaded_contents loaded

@@ -4,15 +4,13 @@ ghost use Rattle.std.specs.Prelude.{◌≡◌, ◌≢◌, false, map, IfOk, IfSo
 ghost use Rattle.std.specs.List.{AllByRecursion};
 ghost use Rattle.sqlite.specs.State.{HasCleanDisk, Survives};
 ghost use Rattle.sqlite.specs.Held.{state};
-ghost use Rattle.ov_keeper.specs.Keeping.{loaded_contents};
 ghost use Rattle.ov_keeper.specs.Views.{line_entry};
 ghost use Rattle.ov_tables.specs.Tables.{HasOurTables};
-ghost use Rattle.ov_tables.specs.Format.{IsFormat, IsCellFormat, IsLine, NamesOther, entry, held};
+ghost use Rattle.ov_tables.specs.Format.{IsFormat, IsCellFormat, IsLine, NamesOther, entry};
 ghost use Rattle.ov_tables.specs.Format.{rows_of_line};
-ghost use Rattle.ov_tables.specs.Holding.{IsStoredAs, MayBeStored};
 ghost use Rattle.ov_tables.specs.Querying.{IsAsBefore};
 ghost use Rattle.ov_sqlite.specs.Reading.{MayReadCells, MayReadRows, ReadsCells, ReadsLines};
-ghost use Rattle.ov_sqlite.specs.Reading.{are_cells};
+ghost use Rattle.ov_sqlite.specs.Reading.{are_cells, IsHeldBy, MayHaveTables};
 
 use crate::columns::line_columns_of;
 use crate::fault::fault_of;
@@ -144,18 +142,13 @@ fn read_rows<S: Alter>(
     }
 }
 
-/// Tests all rows of the format whose tables are there, and returns its number and the schema's text. Returns `NotOurs` if `meta`
-/// names the other format.
-pub fn test_format<S: Alter>(
-    alloc: Global,
-    conn: &mut Connection<S>,
-) -> Result<(u8, Text), KeepFault>
+/// What the tables hold, with a test of all rows of the format whose tables are there. Returns `NotOurs` if `meta` names the
+/// other format, and `Format` if a row is not as in the format.
+pub fn read_all<S: Alter>(alloc: Global, conn: &mut Connection<S>) -> Result<Loaded, KeepFault>
     requires { conn.old.in_transaction ≡ false }
     ensures mode { conn.new.in_transaction ≡ false }
-    ensures ok { HasCleanDisk (state S.Store conn.new)
-        → HasOurTables (state S.Store conn.old).now.schema
-        → IfOk result (λ p. IsTrue (state S.Store conn.old).is_open
-        × IsStoredAs p.0 p.1 (state S.Store conn.old).now) }
+    ensures ok { HasCleanDisk (state S.Store conn.new) → MayHaveTables (state S.Store conn.old)
+        → IfOk result (IsHeldBy (state S.Store conn.old)) }
     ensures format { HasCleanDisk (state S.Store conn.new)
         → HasOurTables (state S.Store conn.old).now.schema
         → result ≡ Err KeepFault.Format → (text : _)
@@ -176,29 +169,7 @@ pub fn test_format<S: Alter>(
     if (named.format == 2) != in_cells {
         return Err(KeepFault::NotOurs);
     }
-    match read_rows(alloc, conn, in_cells) {
-        Ok(_) => Ok((named.format, named.schema)),
-        Err(fault) => Err(fault),
-    }
-}
-
-/// What the tables hold. Returns `Format` only if something else changed a row.
-pub fn read_all<S: Alter>(alloc: Global, conn: &mut Connection<S>) -> Result<Loaded, KeepFault>
-    requires { conn.old.in_transaction ≡ false }
-    ensures mode { conn.new.in_transaction ≡ false }
-    ensures ok { HasCleanDisk (state S.Store conn.new) → (text : _)
-        → MayBeStored text (state S.Store conn.old)
-        → IfOk result (λ loaded. IsTrue (state S.Store conn.old).is_open
-        × (held (state S.Store conn.old).now.trees ≡ loaded_contents loaded)) }
-    ensures same { HasCleanDisk (state S.Store conn.new)
-        → IsAsBefore (state S.Store conn.old) (state S.Store conn.new) }
-    ensures survives { Survives (state S.Store conn.old) (state S.Store conn.new) (λ _. ⊥) }
-{
-    let named = match read_meta(alloc, conn) {
-        Ok(named) => named,
-        Err(fault) => return Err(fault),
-    };
-    let lines = match read_rows(alloc, conn, named.format == 2) {
+    let lines = match read_rows(alloc, conn, in_cells) {
         Ok(lines) => lines,
         Err(fault) => return Err(fault),
     };

@@ -17,6 +17,6 @@ mod value;
 mod write;
 
 pub use fault::{fault_at, refusal};
-pub use format::{read_all, test_format};
+pub use format::read_all;
 pub use rewrite::rewrite_all;
 pub use write::write_all;

@@ -1,5 +1,5 @@
 -- From the result of a call to what its contract says was answered. The result is given by the name of the call.
-use Rattle.std.proofs.Common.{◌≡◌, Result, Ok, Err}
+use Rattle.std.proofs.Common.{◌≡◌, Result, Ok, Err, IfErr}
 use Rattle.ov_store.specs.Answers.{Call, WasAnswered, told}
 
 -- the call returned this value, of which the contract sees so much
@@ -13,6 +13,11 @@ error_told B call r e is = told call (Err e)
 -- the same, where only the error is spoken of
 pub refusal_told : {T E : Type 0} (call : Call) (r : Result T E) (e : E) → r ≡ Err e → WasAnswered call e
 refusal_told call r e is = told call e
+
+-- the same of a result that is passed on
+pub refusals_told : {T E : Type 0} (call : Call) (r : Result T E) → IfErr r (WasAnswered call)
+refusals_told call (Ok x) = tt
+refusals_told call (Err e) = told call e
 
 -- and where it comes with more
 pub paired_told : {T E X : Type 0} (call : Call) (r : Result T (E × X)) (e : E) (x : X) → r ≡ Err (e, x) → WasAnswered call e

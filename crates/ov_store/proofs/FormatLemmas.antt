@@ -1,11 +1,13 @@
 -- From the format of the tables to the format of what an open finds.
-use Rattle.std.proofs.Common.{◌≡◌, ◌⊎◌, ◌≤◌, inl, inr, ℕ, List, [], refl, sym, ap, subst, ◌∙◌, arith, IsTrue, false}
+use Rattle.std.proofs.Common.{◌≡◌, ◌⊎◌, ◌≤◌, inl, inr, ℕ, List, [], refl, sym, ap, subst, ◌∙◌, arith, false, Option, None}
 use Rattle.sqlite.specs.Store.{Ghosts}
 use Rattle.sqlite.specs.Effect.{Database}
 use Rattle.sqlite.specs.State.{HasCleanDisk}
 use Rattle.sqlite.specs.Held.{Held as Connected, state}
 use Rattle.ov_specs.specs.rows.Cells.{Stored, StoredLines, Whole, InCells, format_of}
 use Rattle.ov_keeper.specs.Keeping.{LeavesNoMore, LeavesMade, MayLeaveMade, changed}
+use Rattle.ov_keeper.specs.declared.keeper.Loaded.{Loaded}
+use Rattle.ov_tables.specs.Tables.{HasOurTables}
 use Rattle.ov_tables.specs.Format.{IsFormat, held, rows_of_meta}
 use Rattle.ov_tables.specs.Holding.{HoldsLines, HoldsCells, IsStored, IsStoredAs}
 use Rattle.ov_tables.specs.Querying.{IsAsBefore}
@@ -24,10 +26,6 @@ pub text_stored : (n : ℕ) (text : List ℕ) (db : Database) → IsStoredAs n t
 text_stored n text db (inl (is, lines)) = inl (is, subst (λ t. HoldsLines t db) (sym (schema_is 1 text (rows_of_meta db.trees) lines.format.meta)) lines)
 text_stored n text db (inr (is, cells)) = inr (is, subst (λ t. HoldsCells t db) (sym (schema_is 2 text (rows_of_meta db.trees) cells.format.meta)) cells)
 
-pub known_stored : (n : ℕ) (text : List ℕ) (db : Database) → IsStoredAs n text db → (n ≡ 1) ⊎ (n ≡ 2)
-known_stored n text db (inl (is, lines)) = inl is
-known_stored n text db (inr (is, cells)) = inr is
-
 pub format_found : (n : ℕ) (text : List ℕ) (db : Database) → IsStoredAs n text db → IsFormat text db
 format_found n text db (inl (is, lines)) = inl lines.format
 format_found n text db (inr (is, cells)) = inr cells.format
@@ -35,6 +33,10 @@ format_found n text db (inr (is, cells)) = inr cells.format
 pub any_stored : (n : ℕ) (text : List ℕ) (db : Database) → IsStoredAs n text db → IsStored text db
 any_stored n text db (inl (is, lines)) = inl lines
 any_stored n text db (inr (is, cells)) = inr cells
+
+pub tables_stored : (n : ℕ) (text : List ℕ) (db : Database) → IsStoredAs n text db → HasOurTables db.schema
+tables_stored n text db (inl (is, lines)) = inl lines.format.schema
+tables_stored n text db (inr (is, cells)) = inr cells.format.schema
 
 pub cells_stored : (n : ℕ) (text : List ℕ) (db : Database) → n ≡ 2 → IsStoredAs n text db → HoldsCells text db
 cells_stored n text db two (inl (one, lines)) = absurd (omega (arith, one, two))
@@ -72,14 +74,15 @@ all_made made A B two leaves s here = let it = leaves s here in subst (λ (m : �
 
 module _ {S : Type 0} (g : Ghosts S) where
   -- between calls a connection that holds what it held is of the format that it was
-  pub still_at_rest : (n : ℕ) (old new : Connected S) → IsAtRest g old n → new.in_transaction ≡ false → (HasCleanDisk (state g new) → HasCleanDisk (state g old))
-      → (HasCleanDisk (state g new) → IsAsBefore (state g old) (state g new)) → (HasCleanDisk (state g new) → (s : Stored) → MayFind g new s → n ≤ format_of s.lines) → IsAtRest g new n
-  still_at_rest n old new rest mode honest same found = record {
+  pub still_at_rest : (n : ℕ) (read : Option Loaded) (old new : Connected S) → IsAtRest g old n read → new.in_transaction ≡ false → (HasCleanDisk (state g new) → HasCleanDisk (state g old))
+      → (HasCleanDisk (state g new) → IsAsBefore (state g old) (state g new)) → (HasCleanDisk (state g new) → (s : Stored) → MayFind g new s → n ≤ format_of s.lines) → IsAtRest g new n None
+  still_at_rest n read old new rest mode honest same found = record {
     mode = mode;
     known = rest.known;
     stored = λ clean up. let it = same clean in
         subst (λ (db : Database). IsStoredAs n (text_in db) db) (sym (it.now up)) (rest.stored (honest clean) (it.was_open up));
     found = found;
+    read_is = tt;
   }
 
   -- what one call leaves as it was, and then another

@@ -9,7 +9,8 @@ use Rattle.sqlite.specs.Change.{KeepsRows}
 use Rattle.sqlite.specs.State.{State, HasCleanDisk, Survives, KeepsCommit, IsUnchanged}
 use Rattle.sqlite.specs.Held.{Held as Connected, state}
 use Rattle.ov_specs.specs.rows.Cells.{CellChange, CellLines, Stored, InCells, after_cell_changes, cell_lines, rewritten}
-use Rattle.ov_keeper.specs.Keeping.{LeavesNoMore, LeavesMade, MayLeaveMade, LeavesRefused, IsCommitFault, changed}
+use Rattle.ov_keeper.specs.declared.keeper.Loaded.{Loaded}
+use Rattle.ov_keeper.specs.Keeping.{LeavesNoMore, LeavesMade, MayLeaveMade, LeavesRefused, IsCommitFault, changed, loaded_contents}
 use Rattle.ov_keeper.specs.declared.fault.KeepFault.{KeepFault}
 use Rattle.ov_keeper.specs.declared.fault.KeepFault.TheVariants.{Memory, Device, NotOurs, Format, TooLarge}
 use Rattle.ov_tables.specs.Tables.{row_trees, line_trees, cell_trees}
@@ -19,6 +20,7 @@ use Rattle.ov_sqlite.specs.Changing.{Stores, IsCommitImage}
 use Rattle.ov_tables.specs.Emptying.{KeepsRest}
 use Rattle.ov_sqlite.specs.Rewriting.{Rewrites, IsRewriteImage}
 use Rattle.ov_store.specs.Finding.{new_contents}
+use Rattle.ov_store.specs.Loading.{HoldsLoaded}
 use Rattle.ov_store.specs.StoreState.{MayFind, LeavesOthers, LeavesRest, LeavesTables}
 use Rattle.ov_tables.specs.Making.{IsNew}
 use Rattle.ov_sqlite.proofs.HeldLemmas.{held_cells_meta}
@@ -175,6 +177,10 @@ module _ {S : Type 0} (g : Ghosts S) (settled : (s : S) (db : Trees) → IsTrue 
   -- a call that commits nothing
   pub survives_found : (old new : Connected S) → HasCleanDisk (state g new) → Survives (state g old) (state g new) (λ _. ⊥) → LeavesNoMore (MayFind g old) (MayFind g new)
   survives_found old new clean s h found = elim (s.crash clean found.0 found.1) [ inl before ↦ (found.0, before, found.2) | inr none ↦ absurd none ]
+
+  -- what a load reads is what an open may find after it
+  pub loaded_found : (old new : Connected S) (loaded : Loaded) → HasCleanDisk (state g new) → Survives (state g old) (state g new) (λ _. ⊥) → HoldsLoaded (state g old) loaded → (contents : Stored) → MayFind g new contents → contents ≡ loaded_contents loaded
+  loaded_found old new loaded clean s it contents here = found_is old it.tables.is_open it.settled contents (survives_found old new clean s contents here) ∙ it.tables.holds
 
   pub survives_left : (old new : Connected S) → HasCleanDisk (state g new) → Survives (state g old) (state g new) (λ _. ⊥) → (db : Trees) → g.recovers new.store db → g.recovers old.store db
   survives_left old new clean s db found = elim (s.crash clean db found) [ inl before ↦ before | inr none ↦ absurd none ]

@@ -1,5 +1,5 @@
 -- What contracts see of a store.
-use Rattle.std.specs.Prelude.{◌≡◌, ◌⊎◌, ◌≤◌, ℕ, List, IsTrue, false, refl}
+use Rattle.std.specs.Prelude.{◌≡◌, ◌⊎◌, ◌≤◌, ℕ, List, IsTrue, false, refl, Option, IfSome}
 use Rattle.std.specs.Coded.{Coded, code_by, coded×, coded_ℕ}
 use Rattle.sqlite.specs.Store.{Ghosts}
 use Rattle.sqlite.specs.Tree.{Trees}
@@ -8,6 +8,9 @@ use Rattle.sqlite.specs.State.{HasCleanDisk}
 use Rattle.sqlite.specs.Change.{KeepsRows}
 use Rattle.sqlite.specs.Held.{Held as Connected, held_code, state}
 use Rattle.ov_specs.specs.rows.Cells.{Stored, format_of}
+use Rattle.ov_keeper.specs.declared.keeper.Loaded.{Loaded}
+use Rattle.ov_keeper.specs.Keeping.{loaded_contents}
+use Rattle.ov_keeper.specs.Views.{lines_view}
 use Rattle.ov_tables.specs.Tables.{row_trees}
 use Rattle.ov_tables.specs.Format.{held, stored_schema, rows_of_meta}
 use Rattle.ov_tables.specs.Holding.{IsStoredAs, KeepsOthers}
@@ -33,13 +36,19 @@ module _ {S : Type 0} (g : Ghosts S) where
   abbrev pub MayFind : Connected S → Stored → Type 0
   MayFind c contents = (trees : Trees) × (state g c).may_leave trees × (contents ≡ held trees)
 
+  -- the rows that an opening read are of the format, and they are what an open may find
+  pub record IsWhatIsFound (c : Connected S) (format : ℕ) (loaded : Loaded) : Type 0 where
+    pub of_format : format_of (lines_view loaded.lines) ≡ format
+    pub is_found : HasCleanDisk (state g c) → (contents : Stored) → MayFind c contents → contents ≡ loaded_contents loaded
+
   -- between calls no transaction is under way. While the connection is open the tables are those of the format, and what an open
   -- may find is of that format, or of a later one where the device failed in a rewrite
-  pub record IsAtRest (c : Connected S) (format : ℕ) : Type 0 where
+  pub record IsAtRest (c : Connected S) (format : ℕ) (read : Option Loaded) : Type 0 where
     pub mode : c.in_transaction ≡ false
     pub known : (format ≡ 1) ⊎ (format ≡ 2)
     pub stored : HasCleanDisk (state g c) → IsTrue (state g c).is_open → IsStoredAs format (text_in (state g c).now) (state g c).now
     pub found : HasCleanDisk (state g c) → (contents : Stored) → MayFind c contents → format ≤ format_of contents.lines
+    pub read_is : IfSome read (IsWhatIsFound c format)
 
   -- whatever an open may find is of the store's format
   abbrev pub IsOfItsFormat : StoreState S → Type 0

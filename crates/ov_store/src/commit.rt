@@ -39,6 +39,7 @@ impl<S: Alter> Store<S> {
         if changes.is_empty() {
             return Ok(());
         }
+        self.read = None;
         let Err(failure) = write_all(&mut self.connection, changes) else {
             return Ok(());
         };
@@ -71,6 +72,7 @@ impl<S: Alter> Store<S> {
         ensures others { HasCleanDisk (state S.Store self.new.connection)
             → LeavesRest S.Store self.old.connection self.new.connection }
     {
+        self.read = None;
         let Err(failure) = rewrite_all(&mut self.connection, schema, changes) else {
             self.format = 2;
             return Ok(());

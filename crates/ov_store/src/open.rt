@@ -10,11 +10,12 @@ ghost use Rattle.ov_store.specs.Answers.{Making, Testing, WasAnswered};
 ghost use Rattle.ov_store.specs.Finding.{new_contents, IsForeign};
 ghost use Rattle.ov_store.specs.StoreState.{MayFind, IsOfItsFormat, LeavesTables, text_in};
 
+use crate::load::{number_of, read_tables};
 use crate::store::Store;
 use crate::unopened::Unopened;
 use ov_base::Text;
 use ov_keeper::KeepFault;
-use ov_sqlite::{fault_at, test_format};
+use ov_sqlite::fault_at;
 use ov_tables::{has_room, is_ours, make_tables};
 use sqlite::{Alter, Connection};
 use std::alloc::Global;
@@ -44,14 +45,6 @@ fn make_new<S: Alter>(conn: &mut Connection<S>, schema: &Text) -> Result<(), Kee
     // Its contract says that everything is committed.
     let _after = conn.is_autocommit();
     Err(fault)
-}
-
-/// The number of a format, also where a device that is not honest showed another one.
-fn known_format(number: u8) -> u8
-    ensures known { (result ≡ 1) ⊎ (result ≡ 2) }
-    ensures same { (number ≡ 1) ⊎ (number ≡ 2) → result ≡ number }
-{
-    if number == 1 { 1 } else { 2 }
 }
 
 impl<S: Alter + Drop> Store<S> {
@@ -98,6 +91,7 @@ impl<S: Alter + Drop> Store<S> {
                 connection,
                 format: 2,
                 failures: 0,
+                read: None,
             }),
             Err(fault) => Err(Unopened { fault, connection }),
         }
@@ -106,8 +100,8 @@ impl<S: Alter + Drop> Store<S> {
     /// Opens the store of a database in stored format 1 or 2. Refuses as `NotOurs` if a table of the format is missing or
     /// differs, if another table has a foreign key to them, if another index of theirs is unique, if `meta` names the other
     /// format, or if format 1 has no room for the tables of format 2; anything else beside them is ignored. Refuses as
-    /// `Format` if a row of theirs is not as in the format. Reads each row once. A refusal leaves the connection with what it
-    /// held, and a crash then leaves what it left before.
+    /// `Format` if a row of theirs is not as in the format. Reads each row once: the store keeps what was read until it is loaded
+    /// or changed. A refusal leaves the connection with what it held, and a crash then leaves what it left before.
     pub fn open(alloc: Global, mut connection: Connection<S>) -> Result<Store<S>, Unopened<S>>
         requires { connection.in_transaction ≡ false }
         ensures ok { IfOk result (λ s. HasCleanDisk (state S.Store s.connection)
@@ -142,13 +136,12 @@ impl<S: Alter + Drop> Store<S> {
                 connection,
             });
         }
-        // Its contract says that everything is committed.
-        let _before = connection.is_autocommit();
-        match test_format(alloc, &mut connection) {
-            Ok((format, _text)) => Ok(Store {
+        match read_tables(alloc, &mut connection) {
+            Ok(loaded) => Ok(Store {
                 connection,
-                format: known_format(format),
+                format: number_of(&loaded.lines),
                 failures: 0,
+                read: Some(loaded),
             }),
             Err(fault) => Err(Unopened { fault, connection }),
         }

@@ -14,7 +14,7 @@ const PAGE: u64 = 4_096;
 /// The fewest pages that stay in memory: 8 MiB, since a small file may grow. It is the kit's own number.
 const LEAST_PAGES: u64 = 2_000;
 
-/// The most pages that stay in memory: 64 MiB, the pages of some 400,000 rows. An opening takes the memory for all at once, so
+/// The most pages that stay in memory: 64 MiB, the pages of some 155,000 rows. An opening takes the memory for all at once, so
 /// a fixed number as large as this would be spent on every file.
 const MOST_PAGES: u64 = 16_384;
 

@@ -5,7 +5,7 @@ ghost use Rattle.ov_specs.specs.rows.Cells.{format_of};
 ghost use Rattle.ov_keeper.specs.Keeping.{IsCommitFault};
 ghost use Rattle.ov_store.specs.StoreState.{StoreState, store_code, IsAtRest, MayFind};
 
-use ov_keeper::KeepFault;
+use ov_keeper::{KeepFault, Loaded};
 use sqlite::{Alter, Connection};
 use std::marker::Model;
 
@@ -14,6 +14,8 @@ pub struct Store<S: Alter> {
     pub(crate) connection: Connection<S>,
     pub(crate) format: u8,
     pub(crate) failures: u64,
+    /// What the opening read, until it is loaded or changed.
+    pub(crate) read: Option<Loaded>,
 }
 
 impl<S: Alter> Model for Store<S> {
@@ -25,7 +27,7 @@ impl<S: Alter> Model for Store<S> {
 
     ghost view = { λ s. record { connection = s.connection; format = s.format; failures = s.failures } };
 
-    ghost invariant = { λ s. IsAtRest S.Store s.connection s.format };
+    ghost invariant = { λ s. IsAtRest S.Store s.connection s.format s.read };
 }
 
 impl<S: Alter + Drop> Drop for Store<S> {
@@ -35,6 +37,7 @@ impl<S: Alter + Drop> Drop for Store<S> {
             connection,
             format: _,
             failures: _,
+            read: _,
         } = self;
         drop(connection);
     }
@@ -82,6 +85,7 @@ impl<S: Alter + Drop> Store<S> {
             connection,
             format: _,
             failures: _,
+            read: _,
         } = self;
         connection
     }

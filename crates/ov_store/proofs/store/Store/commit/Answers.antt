@@ -136,6 +136,7 @@ invariant_of-self g c =
           let made = stores_changes g.S.Store g.met.S.Store.settled g.met.S.Store.stays text (changes_view c.args.changes.now) c.self.inside.connection new (c.in_default.ensures.ok clean text (may early)) in
           let more = all_made (changed (changes_view c.args.changes.now)) (MayFind g.S.Store c.self.inside.connection) (MayFind g.S.Store new) (λ _. refl) made s here in
           omega (arith, two, more);
+      read_is = tt;
     }
 
 pub invariant_of-self-then-eq : goal.invariant_of-self-then-eq
@@ -145,7 +146,7 @@ invariant_of-self-then-eq g c =
     let new = c.fault_at-fault.new.conn in
     let two : c.self.inside.format ≡ 2 = ap (λ (s : StoreState _). s.format) c.self.view_is ∙ c.requires in
     let text = text_in (state g.S.Store old).now in
-    still_at_rest g.S.Store c.self.inside.format old new c.self.invariant c.fault_at-fault.ensures.mode
+    still_at_rest g.S.Store c.self.inside.format c.self.inside.read old new c.self.invariant c.fault_at-fault.ensures.mode
     (λ clean. omega (arith, c.write_all.ensures.crash.clean, c.fault_at-fault.ensures.survives.clean))
     (λ clean. let middle : HasCleanDisk (state g.S.Store mid) = omega (arith, c.fault_at-fault.ensures.survives.clean) in
     as_before_then g.S.Store old mid new (c.in-Err.ensures.same middle) (c.fault_at-fault.ensures.same clean))
@@ -164,7 +165,7 @@ invariant_of-self-else-eq g c =
     let new = c.fault_at-fault.new.conn in
     let two : c.self.inside.format ≡ 2 = ap (λ (s : StoreState _). s.format) c.self.view_is ∙ c.requires in
     let text = text_in (state g.S.Store old).now in
-    still_at_rest g.S.Store c.self.inside.format old new c.self.invariant c.fault_at-fault.ensures.mode
+    still_at_rest g.S.Store c.self.inside.format c.self.inside.read old new c.self.invariant c.fault_at-fault.ensures.mode
     (λ clean. omega (arith, c.write_all.ensures.crash.clean, c.fault_at-fault.ensures.survives.clean))
     (λ clean. let middle : HasCleanDisk (state g.S.Store mid) = omega (arith, c.fault_at-fault.ensures.survives.clean) in
     as_before_then g.S.Store old mid new (c.in-Err.ensures.same middle) (c.fault_at-fault.ensures.same clean))

@@ -62,6 +62,7 @@ invariant_of-result g c =
       found = λ clean s here.
           let is = new_found g.S.Store g.met.S.Store.settled g.met.S.Store.stays c.args.schema (state g.S.Store c.args.connection) new (c.in-Ok.ensures.ok clean may) s here in
           subst (λ (n : ℕ). 2 ≤ n) (sym (ap (λ (t : Stored). format_of t.lines) is)) (omega arith);
+      read_is = tt;
     }
 
 pub returns-clause-honest : goal.returns-clause-honest

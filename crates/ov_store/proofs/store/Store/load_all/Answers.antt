@@ -1,32 +1,32 @@
-use Rattle.std.proofs.Common.{◌≡◌, ◌∙◌, sym, ap, arith, subst}
+use Rattle.std.proofs.Common.{◌≡◌, ◌∙◌, sym, ap, arith, subst, Option, IfSome}
 use Rattle.sqlite.specs.State.{HasCleanDisk}
 use Rattle.sqlite.specs.Held.{state}
 use Rattle.ov_specs.specs.rows.Cells.{Stored, format_of}
 use Rattle.ov_keeper.specs.Keeping.{LeavesNoMore}
-use Rattle.ov_tables.specs.Holding.{MayBeStored}
-use Rattle.ov_store.specs.StoreState.{StoreState, MayFind, text_in}
+use Rattle.ov_sqlite.specs.Reading.{MayHaveTables}
+use Rattle.ov_keeper.specs.declared.keeper.Loaded.{Loaded}
+use Rattle.ov_store.specs.StoreState.{StoreState, MayFind, IsWhatIsFound, text_in}
 use Rattle.ov_store.proofs.FoundLemmas.{found_is, survives_found}
-use Rattle.ov_store.proofs.FormatLemmas.{any_stored, stored_format, found_same, still_at_rest}
+use Rattle.ov_store.proofs.FormatLemmas.{tables_stored, stored_format}
 use Rattle.ov_store.proofs.store.Store.load_all.Goals as goal
 
 pub returns-in-Ok-clause-ok : goal.returns-in-Ok-clause-ok
 returns-in-Ok-clause-ok g c clean contents found =
     let conn = c.self.inside.connection in
     let early : HasCleanDisk (state g.S.Store conn) = omega (arith, c.read_tables.ensures.survives.clean) in
-    let text = text_in (state g.S.Store conn).now in
-    let may : MayBeStored text (state g.S.Store conn) = λ up. any_stored c.self.inside.format text (state g.S.Store conn).now (c.self.invariant.stored early up) in
-    let read = c.in-Ok.ensures.ok clean text may in
+    let may : MayHaveTables (state g.S.Store conn) = λ up. tables_stored c.self.inside.format (text_in (state g.S.Store conn).now) (state g.S.Store conn).now (c.self.invariant.stored early up) in
+    let read = c.in-Ok.ensures.ok clean may in
     let same : conn ≡ c.args.self.now.connection = ap (λ (s : StoreState _). s.connection) c.self.view_is in
     let here : MayFind g.S.Store conn contents = subst (λ h. MayFind g.S.Store h contents) (sym same) found in
-    found_is g.S.Store g.met.S.Store.settled g.met.S.Store.stays conn read.is_open read.settled contents here ∙ read.holds
+    found_is g.S.Store g.met.S.Store.settled g.met.S.Store.stays conn read.tables.is_open read.settled contents here ∙ read.tables.holds
 
 pub returns-in-Ok-clause-of_format : goal.returns-in-Ok-clause-of_format
 returns-in-Ok-clause-of_format g c clean =
     let conn = c.self.inside.connection in
     let early : HasCleanDisk (state g.S.Store conn) = omega (arith, c.read_tables.ensures.survives.clean) in
     let text = text_in (state g.S.Store conn).now in
-    let may : MayBeStored text (state g.S.Store conn) = λ up. any_stored c.self.inside.format text (state g.S.Store conn).now (c.self.invariant.stored early up) in
-    let read = c.in-Ok.ensures.ok clean text may in
+    let may : MayHaveTables (state g.S.Store conn) = λ up. tables_stored c.self.inside.format text (state g.S.Store conn).now (c.self.invariant.stored early up) in
+    let read = (c.in-Ok.ensures.ok clean may).tables in
     ap (λ (s : Stored). format_of s.lines) (sym read.holds) ∙ stored_format c.self.inside.format text (state g.S.Store conn).now (c.self.invariant.stored early read.is_open)
 
 pub returns-in-Ok-clause-same : goal.returns-in-Ok-clause-same
@@ -52,13 +52,10 @@ returns-in-Err-clause-same g c clean =
     let late : HasCleanDisk (state g.S.Store new) = rw moved at clean in
     rw moved (subst (λ was. LeavesNoMore (MayFind g.S.Store was) (MayFind g.S.Store new)) same (survives_found g.S.Store g.met.S.Store.settled g.met.S.Store.stays conn new late c.read_tables.ensures.survives))
 
-pub invariant_of-self : goal.invariant_of-self
-invariant_of-self g c =
-    let old = c.self.inside.connection in
-    let new = c.read_tables.new.conn in
-    still_at_rest g.S.Store c.self.inside.format old new c.self.invariant c.read_tables.ensures.mode
-    (λ clean. omega (arith, c.read_tables.ensures.survives.clean))
-    c.read_tables.ensures.same
-    (λ clean.
-    let early : HasCleanDisk (state g.S.Store old) = omega (arith, c.read_tables.ensures.survives.clean) in
-    found_same c.self.inside.format (MayFind g.S.Store old) (MayFind g.S.Store new) (survives_found g.S.Store g.met.S.Store.settled g.met.S.Store.stays old new clean c.read_tables.ensures.survives) (c.self.invariant.found early))
+pub returns-in-Some-clause-ok : goal.returns-in-Some-clause-ok
+returns-in-Some-clause-ok g c clean contents found =
+    let conn = c.self.inside.connection in
+    let same : conn ≡ c.args.self.now.connection = ap (λ (s : StoreState _). s.connection) c.self.view_is in
+    let here : MayFind g.S.Store conn contents = subst (λ h. MayFind g.S.Store h contents) (sym same) found in
+    let kept = subst (λ (read : Option Loaded). IfSome read (IsWhatIsFound g.S.Store conn c.self.inside.format)) (sym c.take.ensures.value ∙ c.in-Some.is) c.self.invariant.read_is in
+    kept.is_found clean contents here

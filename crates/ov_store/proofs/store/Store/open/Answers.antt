@@ -2,14 +2,13 @@ use Rattle.std.proofs.Common.{◌≡◌, ◌∙◌, inl, inr, ap, refl, sym, sub
 use Rattle.sqlite.specs.Held.{state}
 use Rattle.sqlite.specs.Effect.{Database}
 use Rattle.ov_specs.specs.rows.Cells.{Stored, format_of}
+use Rattle.ov_keeper.specs.Views.{lines_view}
 use Rattle.ov_tables.specs.Tables.{HasOurTables}
 use Rattle.ov_tables.specs.Holding.{IsStoredAs}
 use Rattle.ov_tables.proofs.KeepLemmas.{nothing_now}
-use Rattle.ov_store.specs.Answers.{Testing}
 use Rattle.ov_store.specs.StoreState.{text_in}
-use Rattle.ov_store.proofs.AnswerLemmas.{refusal_told}
-use Rattle.ov_store.proofs.FoundLemmas.{found_is, survives_found}
-use Rattle.ov_store.proofs.FormatLemmas.{format_found, known_stored, text_stored, stored_format}
+use Rattle.ov_store.proofs.FoundLemmas.{loaded_found}
+use Rattle.ov_store.proofs.FormatLemmas.{format_found, text_stored}
 use Rattle.ov_store.proofs.store.Store.open.Goals as goal
 
 pub returns-in-Err-clause-format : goal.returns-in-Err-clause-format
@@ -40,45 +39,43 @@ pub returns-then-not-is_ours-clause-survives_refused : goal.returns-then-not-is_
 returns-then-not-is_ours-clause-survives_refused g c = nothing_now _
 
 pub returns-in-Err-clause-told : goal.returns-in-Err-clause-told
-returns-in-Err-clause-told g c = inr (subst HasOurTables c.schema.ensures.value (c.is_ours.ensures.0 c.if-not-is_ours.false), refusal_told Testing c.test_format.result c.in-Err.fault c.in-Err.is)
+returns-in-Err-clause-told g c = inr (subst HasOurTables c.schema.ensures.value (c.is_ours.ensures.0 c.if-not-is_ours.false), c.in-Err.ensures.told)
 
 pub returns-in-Ok-clause-ok : goal.returns-in-Ok-clause-ok
 returns-in-Ok-clause-ok g c clean =
     let has : HasOurTables c.args.connection.schema = subst HasOurTables c.schema.ensures.value (c.is_ours.ensures.0 c.if-not-is_ours.false) in
     let now = (state g.S.Store c.args.connection).now in
-    format_found c.in-Ok.format (text_in now) now (text_stored c.in-Ok.format c.in-Ok._text now (c.in-Ok.ensures.ok clean has).1)
+    let n = format_of (lines_view c.in-Ok.loaded.lines) in
+    format_found n (text_in now) now (text_stored n c.in-Ok.loaded.schema now (c.in-Ok.ensures.ok clean (λ _. has)).tables.stored)
 
 pub returns-in-Ok-clause-of_format : goal.returns-in-Ok-clause-of_format
 returns-in-Ok-clause-of_format g c clean s here =
     let has : HasOurTables c.args.connection.schema = subst HasOurTables c.schema.ensures.value (c.is_ours.ensures.0 c.if-not-is_ours.false) in
-    let old = c.args.connection in
-    let it = c.in-Ok.ensures.ok clean has in
-    let settled = c.is_autocommit-before.ensures.settled (rw (c.is_autocommit-before.ensures.value, c.requires) refl) it.0 in
-    let before = survives_found g.S.Store g.met.S.Store.settled g.met.S.Store.stays old c.test_format.new.conn clean c.test_format.ensures.survives s here in
-    ap (λ (t : Stored). format_of t.lines) (found_is g.S.Store g.met.S.Store.settled g.met.S.Store.stays old it.0 settled s before)
-    ∙ stored_format c.in-Ok.format c.in-Ok._text (state g.S.Store old).now it.1
-    ∙ sym (c.known_format.ensures.same (known_stored c.in-Ok.format c.in-Ok._text (state g.S.Store old).now it.1))
+    let is = loaded_found g.S.Store g.met.S.Store.settled g.met.S.Store.stays c.args.connection c.read_tables.new.conn c.in-Ok.loaded clean c.read_tables.ensures.survives (c.in-Ok.ensures.ok clean (λ _. has)) s here in
+    ap (λ (t : Stored). format_of t.lines) is ∙ sym c.number_of.ensures.number
 
 pub invariant_of-result : goal.invariant_of-result
 invariant_of-result g c =
     let has : HasOurTables c.args.connection.schema = subst HasOurTables c.schema.ensures.value (c.is_ours.ensures.0 c.if-not-is_ours.false) in
     let old = c.args.connection in
-    let new = c.test_format.new.conn in
+    let new = c.read_tables.new.conn in
+    let loaded = c.in-Ok.loaded in
+    let number = c.number_of.ensures.number in
     record {
-      mode = c.test_format.ensures.mode;
-      known = c.known_format.ensures.known;
+      mode = c.read_tables.ensures.mode;
+      known = c.number_of.ensures.known;
       stored = λ clean up.
-          let it = c.in-Ok.ensures.ok clean has in
-          let is = c.known_format.ensures.same (known_stored c.in-Ok.format c.in-Ok._text (state g.S.Store old).now it.1) in
-          subst (λ (db : Database). IsStoredAs c.known_format.result (text_in db) db) (sym ((c.test_format.ensures.same clean).now up))
-          (subst (λ (n : ℕ). IsStoredAs n (text_in (state g.S.Store old).now) (state g.S.Store old).now) (sym is) (text_stored c.in-Ok.format c.in-Ok._text (state g.S.Store old).now it.1));
+          let it = (c.in-Ok.ensures.ok clean (λ _. has)).tables in
+          subst (λ (db : Database). IsStoredAs c.number_of.result (text_in db) db) (sym ((c.read_tables.ensures.same clean).now up))
+          (subst (λ (n : ℕ). IsStoredAs n (text_in (state g.S.Store old).now) (state g.S.Store old).now) (sym number) (text_stored (format_of (lines_view loaded.lines)) loaded.schema (state g.S.Store old).now it.stored));
       found = λ clean s here.
-          let it = c.in-Ok.ensures.ok clean has in
-          let is = c.known_format.ensures.same (known_stored c.in-Ok.format c.in-Ok._text (state g.S.Store old).now it.1) in
-          let settled = c.is_autocommit-before.ensures.settled (rw (c.is_autocommit-before.ensures.value, c.requires) refl) it.0 in
-          let before = survives_found g.S.Store g.met.S.Store.settled g.met.S.Store.stays old new clean c.test_format.ensures.survives s here in
-          let of = ap (λ (t : Stored). format_of t.lines) (found_is g.S.Store g.met.S.Store.settled g.met.S.Store.stays old it.0 settled s before) ∙ stored_format c.in-Ok.format c.in-Ok._text (state g.S.Store old).now it.1 in
-          omega (arith, is, of);
+          let is = loaded_found g.S.Store g.met.S.Store.settled g.met.S.Store.stays old new loaded clean c.read_tables.ensures.survives (c.in-Ok.ensures.ok clean (λ _. has)) s here in
+          let of = ap (λ (t : Stored). format_of t.lines) is in
+          omega (arith, number, of);
+      read_is = record {
+        of_format = sym number;
+        is_found = λ clean s here. loaded_found g.S.Store g.met.S.Store.settled g.met.S.Store.stays old new loaded clean c.read_tables.ensures.survives (c.in-Ok.ensures.ok clean (λ _. has)) s here;
+      };
     }
 
 pub returns-in-Ok-clause-tables : goal.returns-in-Ok-clause-tables

@@ -115,6 +115,7 @@ invariant_of-self g c =
           let early : HasCleanDisk (state g.S.Store old) = omega (arith, c.rewrite_all.ensures.crash.clean) in
           all_made (λ _. rewritten c.args.schema.now (changes_view c.args.changes.now)) (MayFind g.S.Store old) (MayFind g.S.Store new) (λ _. refl)
           (rewrites_contents g.S.Store g.met.S.Store.settled g.met.S.Store.stays c.args.schema.now (changes_view c.args.changes.now) old new (c.in_default.ensures.ok clean text (may early)));
+      read_is = tt;
     }
 
 pub invariant_of-self-then-eq : goal.invariant_of-self-then-eq
@@ -124,7 +125,7 @@ invariant_of-self-then-eq g c =
     let new = c.fault_at-fault.new.conn in
     let text = text_in (state g.S.Store old).now in
     let lines = after_cell_changes (changes_view c.args.changes.now) empty in
-    still_at_rest g.S.Store c.self.inside.format old new c.self.invariant c.fault_at-fault.ensures.mode
+    still_at_rest g.S.Store c.self.inside.format c.self.inside.read old new c.self.invariant c.fault_at-fault.ensures.mode
     (λ clean. omega (arith, c.rewrite_all.ensures.crash.clean, c.fault_at-fault.ensures.survives.clean))
     (λ clean. let middle : HasCleanDisk (state g.S.Store mid) = omega (arith, c.fault_at-fault.ensures.survives.clean) in
     as_before_then g.S.Store old mid new (c.in-Err.ensures.same middle) (c.fault_at-fault.ensures.same clean))
@@ -143,7 +144,7 @@ invariant_of-self-else-eq g c =
     let new = c.fault_at-fault.new.conn in
     let text = text_in (state g.S.Store old).now in
     let lines = after_cell_changes (changes_view c.args.changes.now) empty in
-    still_at_rest g.S.Store c.self.inside.format old new c.self.invariant c.fault_at-fault.ensures.mode
+    still_at_rest g.S.Store c.self.inside.format c.self.inside.read old new c.self.invariant c.fault_at-fault.ensures.mode
     (λ clean. omega (arith, c.rewrite_all.ensures.crash.clean, c.fault_at-fault.ensures.survives.clean))
     (λ clean. let middle : HasCleanDisk (state g.S.Store mid) = omega (arith, c.fault_at-fault.ensures.survives.clean) in
     as_before_then g.S.Store old mid new (c.in-Err.ensures.same middle) (c.fault_at-fault.ensures.same clean))
