@@ -13,7 +13,7 @@ pub record Course : Type 0 where
   pub handed : List (List ℕ)
   pub waiting : List (List ℕ)
 
--- A session that was not meant: more frames may wait for it, if it is open, and it may be closed as out of memory.
+-- A session that a step does not serve: while it is open, more frames may wait for it, and it may be closed as out of memory.
 pub record Spares (before after : Course) : Type 0 where
   pub more : List (List ℕ)
   pub waiting : after.waiting ≡ before.waiting ++ more

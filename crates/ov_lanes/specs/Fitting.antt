@@ -86,7 +86,7 @@ pub record FitsCourse (c : Course) (cause : Option Cause) (items : Items) (put :
   pub knows : Knows c.closed cause
   pub ends : ended ≡ true → c.is_open ≡ false
   pub opens : is_some c.closed ≡ not c.is_open
-  -- that a write failed is learnt only at the end
+  -- a failed write is found only when the writer is joined
   pub unfailed : c.closed ≢ Some machine.WriteFault
   -- the session did not take what was sent to it: more frames than its ring has room for
   pub overrun : c.closed ≡ Some machine.Overrun → most_frames < length c.handed + length c.waiting

@@ -24,8 +24,8 @@ LaneFitsWith since items l = FitsCourse (course_of since l.session.serial) l.cau
 abbrev pub LaneFits : {K D : Type 0} {first core : CoreState K D} → Since first core → Lane → Type 0
 LaneFits since l = LaneFitsWith since (received l.inbound) l
 
--- The lane was moved on, with this moment reported, and the other sessions were not meant. What it has taken before is what
--- its ring gave, or these items.
+-- The lane was moved on, with this moment reported, and no other session was served. What it has taken before is what its
+-- ring gave, or these items.
 pub record Moves {K D : Type 0} {first old : CoreState K D} (at : ℕ) (since : Since first old) (l : Lane) (new : CoreState K D) (l' : Lane) : Type 0 where
   pub goes : Goes at l.session.serial since new
   pub fits : LaneFits goes.after l'
@@ -102,7 +102,7 @@ abbrev pub IsUntold : Course → Type 0
 IsUntold c = c.is_open ≡ false → c.closed ≡ None → c.handed ≡ []
 
 -- What was done since the core was `start`. Each session that was opened since and is open has a place, each has at most one,
--- and what its lane has taken and put fits the course of the session. Sessions that were there before were not meant.
+-- and what its lane has taken and put fits the course of the session. Sessions from before are not served.
 pub record Serves {K D : Type 0} (start core : CoreState K D) (places : List (Option Lane)) : Type 0 where
   pub since : Since start core
   pub fits : (at : ℕ) (l : Lane) → IsAt places at l → LaneFits since l
@@ -191,7 +191,7 @@ abbrev pub unmarked : List (Option Lane) → ℕ
 unmarked [] = 0
 unmarked (p ∷ places) = unmarked_at p + unmarked places
 
--- Whether the session at a place was given up because its ring had no room. If so, the end mark was put; otherwise nothing was
+-- Whether the session at a place was closed because its ring had no room. If so, the end mark was put; otherwise nothing was
 -- entered, and nothing more can be moved for it.
 abbrev pub GivesUpIf : {K D : Type 0} → Bool → CoreState K D → Option Lane → CoreState K D → Option Lane → Type 0
 GivesUpIf true old p new p' = unmarked_at p' < unmarked_at p

@@ -15,7 +15,7 @@ use ov_keeper::Keeper;
 use ov_requests::Draws;
 use std::alloc::Global;
 
-/// Moves what waits for the session at a place. Returns whether it was given up, as `flush` does.
+/// Moves what waits for the session at a place. Returns whether it was closed for want of room, as `flush` does.
 fn flush_place<K: Keeper + Drop, D: Draws + Drop>(
     core: &mut Core<K, D>,
     place: &mut Option<Lane>,
@@ -52,7 +52,7 @@ fn flush_at<K: Keeper + Drop, D: Draws + Drop>(
     flush_place(core, place)
 }
 
-/// Moves what waits for each session, once. Returns whether one of them was given up.
+/// Moves what waits for each session, once. Returns whether one of them was closed for want of room.
 fn flush_each<K: Keeper + Drop, D: Draws + Drop>(
     core: &mut Core<K, D>,
     lanes: &mut Vec<Option<Lane>>,
@@ -75,8 +75,7 @@ fn flush_each<K: Keeper + Drop, D: Draws + Drop>(
 /// Moves what waits for all sessions: frames into their rings, and after the last frame of a closed session the end mark. A
 /// session whose ring has no room for a frame is closed as `Overrun`.
 ///
-/// A session closed this way may have owned locks, and their next owners are notified: then all sessions are gone over
-/// again.
+/// A session closed this way may have owned locks, and their next owners are notified: then all sessions are flushed again.
 pub(crate) fn flush_all<K: Keeper + Drop, D: Draws + Drop>(
     core: &mut Core<K, D>,
     lanes: &mut Vec<Option<Lane>>,

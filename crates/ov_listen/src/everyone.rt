@@ -18,8 +18,7 @@ use std::rt::Clock as SystemClock;
 use std::sync::Wait;
 use std::thread::Threads;
 
-/// Serves every client as a session of the machine, up to 64 at a time, as `serve_lobby` does, until no connection can be
-/// accepted any more.
+/// Serves every client as a session of the machine, up to 64 at a time, as `serve_lobby` does, until accepting one fails.
 pub(crate) fn serve_everyone<R, K, D, C>(
     rt: &R,
     alloc: Global,

@@ -64,9 +64,9 @@ where
 
 /// Serves sessions of the database in the file at a path, as `serve_place` does. `start` stands for what the file and its log
 /// held. If the sessions ended by their input or by their streams, or no client was served for a cause other than memory, the
-/// file is then closed: it has the whole, with no log beside it, unless the system refuses that. If the closing fails, nothing
-/// is lost: the file and its log belong together, as after a kill. If the file is refused, nothing is read or written, the
-/// server does not listen, and nothing is copied into the file.
+/// file is then closed: it holds the whole database, with no log beside it, unless the system refuses that. If the closing
+/// fails, nothing is lost: the file and its log belong together, as after a kill. If the file is refused, nothing is read or
+/// written, the server does not listen, and nothing is copied into the file.
 ///
 /// The contract ties no path to a file, so that the file which is opened and closed is the one at the path is not in it.
 pub fn serve_file<R, T, D, S, W, C>(

@@ -18,8 +18,8 @@ pub struct Pipes<S, W, C> {
     pub clock: C,
 }
 
-/// The pipes over a reader and a writer of std that were not used yet, and a clock that stands at 0 now. The writer gathers
-/// up to 8,192 bytes, until a flush.
+/// The pipes over a reader and a writer of std that were not used yet, and a clock that begins at 0. The writer buffers up
+/// to 8,192 bytes, until a flush.
 pub fn pipes_over<'a, R: SystemClock, I: Read + Drop, O: Write + Drop>(
     rt: &'a R,
     alloc: Global,

@@ -11,7 +11,7 @@ use std::net::{TcpListener, TcpStream};
 /// What reads from a connection that closes once both of its ends are dropped.
 pub type ClientReader = Watched<TcpStream>;
 
-/// What writes to it. It gathers up to 8,192 bytes, until a flush.
+/// What writes to it. It buffers up to 8,192 bytes, until a flush.
 pub type ClientWriter = Watched<BufWriter<TcpStream>>;
 
 /// The clients that connect to a listener, each with the two ends of its connection.

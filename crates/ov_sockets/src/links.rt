@@ -13,7 +13,7 @@ use std::net::TcpStream;
 /// What reads from a connection.
 pub type SocketReader<'a> = Watched<&'a TcpStream>;
 
-/// What writes to a connection. It gathers up to 8,192 bytes, until a flush.
+/// What writes to a connection. It buffers up to 8,192 bytes, until a flush.
 pub type SocketWriter<'a> = Watched<BufWriter<&'a TcpStream>>;
 
 /// The two ends of each connection, in order. Nothing has been read from them or written to them yet. A connection is closed

@@ -58,7 +58,7 @@ RunsEvents events old new =
     × CountsWork old.core entries new.core
 
 -- An event is refused in a state if the machine's step for it is, with the fault of that step: an opening or a passing of
--- time may be refused, what a session sends and its end never are.
+-- time may be refused; a piece or the end of a session's input never is.
 abbrev pub RefusesEvent : StreamEvent → State → StepFault → Type 0
 RefusesEvent Open s fault = RefusesStep machine.Open s fault
 RefusesEvent (Feed session bytes) s fault = ⊥

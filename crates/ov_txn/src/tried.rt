@@ -66,8 +66,8 @@ fn perform_on<K: Keeper + Drop, O: Owns>(
 ///
 /// Performs the operations in order and commits by the rules for references, unreferenced rows and limits (RFC 7047, 3.2). If
 /// that changes the database, prepares all that follows the commit, and asks the store last of all. For a sealed database the
-/// store is no longer asked: the transaction is answered as if the store had failed. Nor is it asked if nothing is changed,
-/// or if an operation or the commit fails (4.1.3).
+/// store is not asked: the transaction is answered as if the store had failed. Nor is it asked if nothing is changed, or if an
+/// operation or the commit fails (4.1.3).
 pub fn attempt<K: Keeper + Drop, O: Owns, R: Ready<K>>(
     alloc: Global,
     db: &mut Db<K>,
