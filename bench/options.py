@@ -5,6 +5,7 @@ checkpoints. It prints two tables in Markdown: starts over closed files, and ins
 Words: the program `ov_options_bench`, a folder for the files, which are removed at the end, and the rows of the largest file,
 400,000 if left out. Files are in the system's cache at each start. A start is timed from before the process is made to the line
 that says it is ready; the program itself times the parts: the kit's connection, the opening of the store, and the first load.
+At each start the loaded rows are counted.
 """
 
 import os
@@ -21,20 +22,23 @@ INSERTED_INTO = 100_000
 CACHES = (2_000, 4_096, 8_192, 16_384, 65_536)
 FRAMES = (1_000, 4_096, 16_384)
 
-# The options to fill with, and those that the store has for files of its largest cache.
-WIDE = (65_536, 16_384)
+# What files are filled with, and what the store has: its largest cache, and its log.
+WIDE = (65_536, 65_536)
 OURS = (16_384, 1_000)
 
-# Starts are repeated so often, but no more after so many seconds of them.
+# A start is repeated so often, but not after so many seconds of it.
 STARTS = 3
-SECONDS = 4
+SECONDS = 8
 
-# At least so many commits of one row. There are more with a long log, since it is to be copied into the file once.
+# At least so many commits of one row. With a long log there are more, for it is to be copied into the file once: so many
+# commits as it has frames, over so many.
 COMMITS = 500
-COMMITS_FOR_FRAMES = 4
+FRAMES_OF_A_COMMIT = 4
 
-# The frames that a commit of one row writes at most, unless pages are split; and the bytes of a log's header, a frame's, a page.
-FRAMES_AT_ONCE = 8
+# The log is filled up to so many frames before its end: a commit of one row has no more, unless several pages are split.
+ROOM = 8
+
+# The bytes of a log's header, of a frame's, and of a page.
 LOG_HEADER, FRAME_HEADER, PAGE = 32, 24, 4_096
 
 # Memory as the packaged unit gives it to the server.
@@ -46,18 +50,21 @@ def say(text):
 
 
 class Store:
-    """The program over a file, and what it told of its start."""
+    """The program over a file with so many rows, and what it told of its start."""
 
-    def __init__(self, program, path, *options):
+    def __init__(self, program, path, rows, *options):
         environment = {"GLIBC_TUNABLES": MEMORY, **os.environ}
-        start = time.perf_counter()
         words = [program, path, *map(str, options)]
+        start = time.perf_counter()
         self.process = subprocess.Popen(words, stdin=subprocess.PIPE, stdout=subprocess.PIPE, text=True, env=environment)
         self.told = {}
         while "ready" not in self.told:
             word, number = self.line()
             self.told[word] = number
         self.told["start"] = (time.perf_counter() - start) * 1e6
+        self.rows = self.told["rows"]
+        if self.rows != rows:
+            sys.exit(f"options.py: {self.rows} rows were loaded in place of {rows}")
 
     def line(self):
         """A word and a number that the program printed."""
@@ -67,12 +74,13 @@ class Store:
         word, number = line.split()
         return word, int(number)
 
-    def perform(self, word, count, lines):
-        """Does a step, and gives the microseconds that it took, or those of each commit."""
-        self.process.stdin.write(f"{word} {count}\n")
+    def perform(self, word, rows, lines):
+        """Adds rows, and gives the microseconds that it took, or those of each commit."""
+        self.process.stdin.write(f"{word} {rows}\n")
         self.process.stdin.flush()
         told = [self.line() for _ in range(lines)]
         assert all(told_word == word for told_word, _ in told)
+        self.rows += rows
         return [microseconds for _, microseconds in told]
 
     def fill(self, rows):
@@ -109,95 +117,111 @@ def frames_in(log):
 
 
 def fill_files(program, folder, sizes):
-    """A file of each size, in which each is a copy of the one before with more rows. Their paths, by size."""
-    paths, before = {}, None
+    """A file of each size: a copy of the one before, with more rows. Their paths, by size."""
+    paths, before = {}, 0
     for size in sizes:
-        path = os.path.join(folder, f"{size}.db")
+        paths[size] = os.path.join(folder, f"{size}.db")
         if before:
-            shutil.copyfile(paths[before], path)
+            shutil.copyfile(paths[before], paths[size])
         start = time.perf_counter()
-        store = Store(program, path, *WIDE)
-        assert store.told["rows"] == (before or 0)
-        store.fill(size - (before or 0))
+        store = Store(program, paths[size], before, *WIDE)
+        store.fill(size - before)
         store.close()
-        say(f"{size:,} rows after {time.perf_counter() - start:.1f} s, {os.path.getsize(path) / 1e6:,.1f} MB")
-        paths[size], before = path, size
+        say(f"{size:,} rows after {time.perf_counter() - start:.1f} s")
+        before = size
     os.sync()
     return paths
 
 
-def starts(program, path, options, rows, end):
-    """Starts over a file, each ended by `end`. The medians of what was told."""
-    all_told, begun = [], time.perf_counter()
-    while len(all_told) < STARTS and (not all_told or time.perf_counter() - begun < SECONDS):
-        store = Store(program, path, *options)
-        end(store)
-        if store.told["rows"] != rows:
-            sys.exit(f"options.py: {store.told['rows']} rows were loaded in place of {rows}")
-        all_told.append(store.told)
-    return {word: statistics.median(told[word] for told in all_told) for word in all_told[0]}
-
-
-def table(head, lines):
-    print(f"\n| {' | '.join(head)} |\n|{'---|' * len(head)}")
-    for line in lines:
-        print(f"| {' | '.join(line)} |", flush=True)
+def starts(program, path, rows, options):
+    """What was told of each of some starts over a closed file."""
+    told, begun = [], time.perf_counter()
+    while len(told) < STARTS and (not told or time.perf_counter() - begun < SECONDS):
+        store = Store(program, path, rows, *options)
+        store.close()
+        told.append(store.told)
+    return told
 
 
 def ms(microseconds):
     return f"{microseconds / 1e3:,.1f}"
 
 
-def mb(kibibytes):
-    return f"{kibibytes * 1_024 / 1e6:,.1f}"
+def mb(size):
+    return f"{size / 1e6:,.1f}"
 
 
-def starts_of(program, path, rows):
-    """The lines of the table of starts for a file: with each cache, and as the server opens it."""
-    lines, size = [], f"{os.path.getsize(path) / 1e6:,.1f}"
-    for cache in CACHES:
-        told = starts(program, path, (cache, OURS[1]), rows, Store.close)
-        times = [ms(told[word]) for word in ("start", "connection", "store", "load")]
-        lines.append([f"{rows:,}", size, f"{cache:,}", *times, mb(told["resident"]), mb(told["peak"])])
-        say(" ".join(lines[-1]))
-    told = starts(program, path, (), rows, Store.close)
-    lines.append([f"{rows:,}", size, "server", ms(told["start"]), "", "", "", mb(told["resident"]), mb(told["peak"])])
-    return lines
+def start_line(rows, path, cache, told):
+    """The line of the table of starts: medians of what was told of these."""
+    median = {word: statistics.median(one[word] for one in told) for word in told[0]}
+    times = [ms(median[word]) for word in ("start", "connection", "store", "load")]
+    memory = [mb(median[word] * 1_024) for word in ("resident", "peak")]
+    line = [f"{rows:,}", mb(os.path.getsize(path)), f"{cache:,}", f"{len(told)}", *times, *memory]
+    say(" ".join(line))
+    return line
 
 
-def insert(program, path, options):
-    """Commits of one row each, and then as many as the log has room for. The microseconds of the former, how often the log was
-    copied meanwhile, the rows that there are, and the frames of the log, which the killed program leaves."""
-    frames = options[1]
-    store = Store(program, path, *options)
-    begun = frames_in(log_of(path))[1]
-    taken = store.put(max(COMMITS, frames // COMMITS_FOR_FRAMES))
-    copied = frames_in(log_of(path))[1] - begun
-    rows = store.told["rows"] + len(taken)
-    while (room := frames - frames_in(log_of(path))[0]) > FRAMES_AT_ONCE:
-        rows += len(store.put(max(1, room // FRAMES_AT_ONCE)))
+def insert(store, path, frames):
+    """Commits of one row each, and then as many as the log has room for, until the program is killed. The microseconds of the
+    former, and how often the log was copied meanwhile."""
+    log = log_of(path)
+    begun = frames_in(log)[1]
+    taken = store.put(max(COMMITS, frames // FRAMES_OF_A_COMMIT))
+    copied = frames_in(log)[1] - begun
+    while (room := frames - frames_in(log)[0]) > ROOM:
+        store.put(max(1, room // ROOM))
     store.kill()
-    return taken, copied, rows, frames_in(log_of(path))[0]
+    return taken, copied
 
 
-def inserts_with(program, source, folder, options):
-    """The line of the table of inserts for these options, over a copy of a file."""
-    path = os.path.join(folder, "copy.db")
+def insert_line(program, source, rows, options):
+    """The line of the table of inserts with these options, over a copy of a file, and what was told of the start before them."""
+    path = f"{source}-copy"
     shutil.copyfile(source, path)
     os.sync()
-    taken, copied, rows, left = insert(program, path, options)
-    sizes = [f"{os.path.getsize(it) / 1e6:,.1f}" for it in (path, log_of(path))]
-    killed = starts(program, path, options, rows, Store.kill)
-    # What the server's own opening takes over such a log does not depend on the cache that filled it.
-    served = ms(starts(program, path, (), rows, Store.kill)["start"]) if options[0] == OURS[0] else ""
+    store = Store(program, path, rows, *options)
+    taken, copied = insert(store, path, options[1])
+    left = [mb(os.path.getsize(path)), mb(os.path.getsize(log_of(path))), f"{frames_in(log_of(path))[0]:,}"]
+    again = Store(program, path, store.rows, *options)
+    again.kill()
+    left += [ms(again.told["start"]), ms(again.told["connection"])]
+    if options[0] == OURS[0]:
+        served = Store(program, path, store.rows)
+        served.kill()
+        left.append(ms(served.told["start"]))
+    else:
+        left.append("")
     os.remove(path)
     os.remove(log_of(path))
     p99 = statistics.quantiles(taken, n=100)[98]
     times = [f"{it:,.0f}" for it in (statistics.mean(taken), statistics.median(taken), p99, max(taken))]
-    line = [f"{it:,}" for it in options] + times + [f"{copied} in {len(taken):,}", *sizes, f"{left:,}"]
-    line += [ms(killed["start"]), ms(killed["connection"]), served]
+    line = [*(f"{it:,}" for it in options), *times, f"{copied} in {len(taken):,}", *left]
     say(" ".join(line))
-    return line
+    return line, store.told
+
+
+def table(head, lines):
+    print(f"\n| {' | '.join(head)} |\n|{'---|' * len(head)}")
+    for line in lines:
+        print(f"| {' | '.join(line)} |")
+
+
+def measure(program, folder, sizes):
+    """The lines of the two tables. The file that is inserted into is started often enough there."""
+    paths = fill_files(program, folder, sizes)
+    inserted = min(INSERTED_INTO, sizes[-1])
+    inserts, told = [], {cache: [] for cache in CACHES}
+    for frames in FRAMES:
+        for cache in CACHES:
+            line, start = insert_line(program, paths[inserted], inserted, (cache, frames))
+            inserts.append(line)
+            told[cache].append(start)
+    lines = []
+    for size in sizes:
+        for cache in CACHES:
+            all_told = told[cache] if size == inserted else starts(program, paths[size], size, (cache, OURS[1]))
+            lines.append(start_line(size, paths[size], cache, all_told))
+    return lines, inserts, inserted
 
 
 def main():
@@ -205,19 +229,15 @@ def main():
         sys.exit("options.py PROGRAM FOLDER [ROWS]")
     program = os.path.abspath(sys.argv[1])
     largest = int(sys.argv[3]) if len(sys.argv) == 4 else SIZES[-1]
-    sizes = [size for size in SIZES if size <= largest]
-    begun = time.perf_counter()
+    begun, load = time.perf_counter(), os.getloadavg()[0]
     with tempfile.TemporaryDirectory(dir=sys.argv[2]) as folder:
-        load = os.getloadavg()[0]
-        paths = fill_files(program, folder, sizes)
-        lines = [line for size in sizes for line in starts_of(program, paths[size], size)]
-        source = paths[min(INSERTED_INTO, sizes[-1])]
-        inserts = [inserts_with(program, source, folder, (cache, frames)) for frames in FRAMES for cache in CACHES]
+        lines, inserts, inserted = measure(program, folder, [size for size in SIZES if size <= largest])
     print(f"{os.cpu_count()} processors, load {load:.1f} before and {os.getloadavg()[0]:.1f} after")
-    head = ["rows", "file, MB", "cache, pages", "start, ms", "connection", "store", "load", "resident, MB", "peak"]
-    table(head, lines)
-    head = ["cache, pages", "log, frames", "insert, mean us", "p50", "p99", "longest", "log copied", "file, MB", "log, MB"]
-    table([*head, "frames left", "start after a kill, ms", "connection", "server's start"], inserts)
+    print("\nStarts over a closed file: medians, times in ms, memory in MB with the loaded rows.")
+    table(["rows", "file, MB", "cache, pages", "starts", "start", "connection", "store", "load", "resident", "peak"], lines)
+    print(f"\nInserts of one row, from {inserted:,} rows on, in us; and one start after a kill with a full log, in ms.")
+    head = ["cache, pages", "log, frames", "mean", "p50", "p99", "longest", "log copied", "file, MB", "log, MB", "frames"]
+    table([*head, "start after a kill", "connection", "with the server's look"], inserts)
     print(f"\nAll of it took {time.perf_counter() - begun:.0f} s.")
 
 
