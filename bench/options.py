@@ -33,9 +33,9 @@ SECONDS = 8
 # At least so many commits of one row. With a long log there are more, for it is to be copied into the file once: so many
 # commits as it has frames, over so many.
 COMMITS = 500
-FRAMES_OF_A_COMMIT = 4
+FRAMES_OF_A_COMMIT = 5
 
-# The log is filled up to so many frames before its end: a commit of one row has no more, unless several pages are split.
+# The log is filled up to so many frames before its end. A row has no more of them, unless several pages are split.
 ROOM = 8
 
 # The bytes of a log's header, of a frame's, and of a page.
@@ -162,14 +162,14 @@ def start_line(rows, path, cache, told):
 
 
 def insert(store, path, frames):
-    """Commits of one row each, and then as many as the log has room for, until the program is killed. The microseconds of the
+    """Commits of one row each, and then larger ones until the log is full and the program is killed. The microseconds of the
     former, and how often the log was copied meanwhile."""
     log = log_of(path)
     begun = frames_in(log)[1]
     taken = store.put(max(COMMITS, frames // FRAMES_OF_A_COMMIT))
     copied = frames_in(log)[1] - begun
     while (room := frames - frames_in(log)[0]) > ROOM:
-        store.put(max(1, room // ROOM))
+        store.fill(max(1, room // ROOM))
     store.kill()
     return taken, copied
 
