@@ -20,7 +20,7 @@ first_empty : {A : Type 0} (xs ys : List A) → xs ++ ys ≡ [] → xs ≡ []
 first_empty [] ys h = refl
 first_empty (x ∷ xs) ys h = cc
 
-outcome_as : (closed closed' : Option machine.Cause) (messages messages' : List Message) (sent sent' : List (List ℕ)) (why : machine.Cause) (is_whole : Bool) (source source' : SourceState) (sink sink' : SinkState)
+pub outcome_as : (closed closed' : Option machine.Cause) (messages messages' : List Message) (sent sent' : List (List ℕ)) (why : machine.Cause) (is_whole : Bool) (source source' : SourceState) (sink sink' : SinkState)
     → closed' ≡ closed → messages' ≡ messages → sent' ≡ sent → Outcome closed messages sent why is_whole source source' sink sink' → Outcome closed' messages' sent' why is_whole source source' sink sink'
 outcome_as closed closed' messages messages' sent sent' why is_whole source source' sink sink' a b c o =
     subst (λ k. Outcome k messages' sent' why is_whole source source' sink sink') (sym a)

@@ -6,3 +6,5 @@ mod Seats
 mod Running
 mod Serving
 mod Halls
+mod Gone
+mod Guests

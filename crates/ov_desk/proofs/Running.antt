@@ -13,7 +13,7 @@ use Rattle.ov_lanes.specs.Lanes.{IsAt, SameLane, PutsAlone, LooksAt, StaysAs, St
 use Rattle.ov_lanes.specs.declared.lane.Lane.{Lane}
 use Rattle.ov_lanes.proofs.Timing.{timed_more, tells_more}
 use Rattle.ov_lanes.proofs.PlaceLaws.{some_before, some_after}
-use Rattle.ov_desk.specs.Serving.{TakesTime, ServesLobby, RunsBy, times, AreApart, KeepsPlaces, KeepsHall, TakesNoted, IsTended}
+use Rattle.ov_desk.specs.Serving.{TakesTime, ServesLobby, ServesBy, RunsBy, times, AreApart, KeepsPlaces, KeepsHall, TakesNoted, IsTended}
 
 -- ---- moments
 
@@ -240,20 +240,23 @@ pub time_of : {K D C : Type 0} (tells : C → ℕ → C → Type 0) (old mid new
 time_of tells old mid new clock clock' opened more entries moments parts opens told timed = record { opened = opened; others = more; mid = mid.state; parts = parts; opens = opens; moments = moments; told = told; timed = timed }
 
 module _ {K D C : Type 0} (tells : C → ℕ → C → Type 0) (a b : CoreState K D) (ls ms : List (Option Lane)) (clock clock' : C) (s : Serves a a ls) (none : s.since.entries ≡ []) where
+  -- with these moments
+  abbrev pub lobby_by : (moments : List ℕ) → Tells tells clock moments clock' → ServesBy moments s b ms → AreOver ms → ServesLobby tells a clock b clock'
+  lobby_by moments told x over = let t = x.after in record {
+    since = t.since;
+    closed = λ n away. elim (cases_Bool (is_open b.state n)) [
+      | inl there ↦ elim (t.have_places n there) [
+        | inl was ↦ absurd (false≢true (sym away ∙ was))
+        | inr (j, l, is, serial) ↦ absurd (false≢true (sym ((t.fits j l is).ends (over j l is).0) ∙ (ap (λ k. is_open b.state k) serial ∙ there)))
+      ]
+      | inr shut ↦ shut
+    ];
+    earlier = t.earlier;
+    time = time_of tells a a b clock clock' [] x.more t.since.entries moments (x.adds ∙ ap (λ (l : List Entry). l ++ x.more) none) (λ reported. refl) told x.timed;
+  }
+
   pub serves_lobby : RunsBy tells a ls clock b ms clock' → AreOver ms → ServesLobby tells a clock b clock'
-  serves_lobby runs over =
-      let x = runs.serves a s in let t = x.after in record {
-        since = t.since;
-        closed = λ n away. elim (cases_Bool (is_open b.state n)) [
-          | inl there ↦ elim (t.have_places n there) [
-            | inl was ↦ absurd (false≢true (sym away ∙ was))
-            | inr (j, l, is, serial) ↦ absurd (false≢true (sym ((t.fits j l is).ends (over j l is).0) ∙ (ap (λ k. is_open b.state k) serial ∙ there)))
-          ]
-          | inr shut ↦ shut
-        ];
-        earlier = t.earlier;
-        time = time_of tells a a b clock clock' [] x.more t.since.entries runs.moments (x.adds ∙ ap (λ (l : List Entry). l ++ x.more) none) (λ reported. refl) runs.told x.timed;
-      }
+  serves_lobby runs over = lobby_by runs.moments runs.told (runs.serves a s) over
 
 -- one note more was taken, or none
 pub noted_more : (first old new notes : List ℕ) (note : Option ℕ) → old ≡ first ++ notes → new ≡ old ++ option_to_list note → new ≡ first ++ (notes ++ option_to_list note)

@@ -61,13 +61,22 @@ module _ {S W L : Type 0} (keeps : Bool) where
   }
 
   -- what is known of a place that is taken
-  seat_some : (p : Option Lane) (v : Option (Workers S W L)) (w : Workers S W L) → v ≡ Some w → IsSeat keeps p v → (k : Link S W) × HaveLink k w
-  seat_some None v w is seat = absurd (let e : None ≡ Some w = sym seat ∙ is in cc)
-  seat_some (Some l) None w is seat = absurd seat
-  seat_some (Some l) (Some u) w is seat = subst (λ x. (k : Link S W) × HaveLink k x) (same_Some u w is) seat.1
+  seat_some : (p : Option Lane) (v : Option (Workers S W L)) (l : Lane) (w : Workers S W L) → p ≡ Some l → v ≡ Some w → IsSeat keeps p v → AreWorkersOf keeps l w × ((k : Link S W) × HaveLink k w)
+  seat_some None v l w is is' seat = absurd (cc)
+  seat_some (Some m) None l w is is' seat = absurd seat
+  seat_some (Some m) (Some u) l w is is' seat =
+      subst (λ x. AreWorkersOf keeps x w × ((k : Link S W) × HaveLink k w)) (same_Some m l is) (subst (λ y. AreWorkersOf keeps m y × ((k : Link S W) × HaveLink k y)) (same_Some u w is') seat)
 
-  pub seated_at : (ls : List (Option Lane)) (ws : List (Option (Workers S W L))) (i : ℕ) (w : Workers S W L) → get_or ws i None ≡ Some w → AreSeats keeps ls ws → (k : Link S W) × HaveLink k w
-  seated_at ls ws i w is seats = seat_some (get_or ls i None) (get_or ws i None) w is (seats.each i)
+  seat_none : (p : Option Lane) (v : Option (Workers S W L)) (l : Lane) → p ≡ Some l → v ≡ None → IsSeat keeps p v → ⊥
+  seat_none None v l is none seat = cc
+  seat_none (Some m) None l is none seat = seat
+  seat_none (Some m) (Some w) l is none seat = cc
+
+  pub seated_at : (ls : List (Option Lane)) (ws : List (Option (Workers S W L))) (i : ℕ) (l : Lane) (w : Workers S W L) → get_or ls i None ≡ Some l → get_or ws i None ≡ Some w → AreSeats keeps ls ws → AreWorkersOf keeps l w × ((k : Link S W) × HaveLink k w)
+  seated_at ls ws i l w is is' seats = seat_some (get_or ls i None) (get_or ws i None) l w is is' (seats.each i)
+
+  pub seated_works : (ls : List (Option Lane)) (ws : List (Option (Workers S W L))) (i : ℕ) (l : Lane) → get_or ls i None ≡ Some l → get_or ws i None ≡ None → AreSeats keeps ls ws → ⊥
+  seated_works ls ws i l is none seats = seat_none (get_or ls i None) (get_or ws i None) l is none (seats.each i)
 
 -- ---- what was started
 

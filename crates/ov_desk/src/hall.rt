@@ -1,12 +1,15 @@
 ghost use Rattle.std.specs.Prelude.{◌≡◌, ◌<◌, ℕ, None, Some, true, slice_index_or, slice_set};
 ghost use Rattle.std.specs.Prelude.{vec_len};
-ghost use Rattle.ov_lanes.specs.Lanes.{GoesOn, StayAs, StaysAs};
+ghost use Rattle.ov_ends.specs.States.{source_of, sink_of};
+ghost use Rattle.ov_lanes.specs.Lanes.{AreOver, GoesOn, IsAt, StayAs, StaysAs};
 ghost use Rattle.ov_lanes.specs.declared.lane.Lane.{Lane as SpecLane};
 ghost use Rattle.ov_lanes.specs.declared.link.Link.{Link as SpecLink};
+ghost use Rattle.ov_desk.specs.Guests.{HaveLeft, StayOrLeave};
 ghost use Rattle.ov_desk.specs.Seats.{AreSeats, AreWorkersOf, HaveLink};
 ghost use Rattle.ov_desk.specs.Serving.{IsTended};
 
 use crate::accept::Accepted;
+use crate::finish::join_workers;
 use crate::parts::Parts;
 use ov_ends::{Sink, Source};
 use ov_keeper::Keeper;
@@ -104,24 +107,30 @@ where
         self.workers[at] = Some(workers);
     }
 
-    /// Frees the place of a session that has left, and joins its workers.
+    /// Frees a place. If a session that is over is there, joins its workers.
     fn leave<R: Threads + Wait>(&mut self, rt: &R, at: usize)
         requires seats { AreSeats self.old.keeps self.old.desk.lanes.items self.old.workers.items }
-        requires left { (at < vec_len self.old.desk.lanes)
-            × ((lane : SpecLane) × (slice_index_or self.old.desk.lanes.items at None ≡ Some lane)
-            × (lane.ended ≡ true)) }
+        requires place { at < vec_len self.old.desk.lanes }
+        requires over { (lane : SpecLane) → IsAt self.old.desk.lanes.items at lane
+            → (lane.ended ≡ true) × (lane.marked ≡ true) }
         ensures many { vec_len self.new.desk.lanes ≡ vec_len self.old.desk.lanes }
         ensures goes { (moment : ℕ)
             → GoesOn moment self.old.desk.core self.old.desk.lanes.items self.new.desk.core
             self.new.desk.lanes.items }
+        ensures leaves { StayOrLeave IsTended (source_of S.Source) (sink_of W.Sink)
+            self.old.desk.lanes.items self.new.desk.lanes.items }
+        ensures free { self.new.desk.lanes.items ≡ slice_set self.old.desk.lanes.items at None }
         ensures same { (self.new.keeps ≡ self.old.keeps) × (self.new.accepted ≡ self.old.accepted) }
         ensures seats { AreSeats self.new.keeps self.new.desk.lanes.items self.new.workers.items }
         ensures core { self.new.desk.core ≡ self.old.desk.core }
     {
-        let _lane = take_out(&mut self.desk.lanes, at);
-        if let Some(workers) = take_out(&mut self.workers, at) {
-            let _left = workers.join(rt);
-        }
+        let place = take_out(&mut self.desk.lanes, at);
+        let seat = take_out(&mut self.workers, at);
+        let Some(lane) = place else {
+            return;
+        };
+        let Some(workers) = seat else { unreachable!() };
+        let _left = join_workers(rt, lane, workers);
     }
 
     /// Rings the bell of the writer at a place if something was put for it. Unless the places are kept, frees the place if its
@@ -133,6 +142,8 @@ where
         ensures goes { (moment : ℕ)
             → GoesOn moment self.old.desk.core self.old.desk.lanes.items self.new.desk.core
             self.new.desk.lanes.items }
+        ensures leaves { StayOrLeave IsTended (source_of S.Source) (sink_of W.Sink)
+            self.old.desk.lanes.items self.new.desk.lanes.items }
         ensures same { (self.new.keeps ≡ self.old.keeps) × (self.new.accepted ≡ self.old.accepted) }
         ensures kept { self.old.keeps ≡ true
             → StayAs IsTended self.old.desk.lanes.items self.new.desk.lanes.items
@@ -156,6 +167,8 @@ where
         ensures goes { (moment : ℕ)
             → GoesOn moment self.old.desk.core self.old.desk.lanes.items self.new.desk.core
             self.new.desk.lanes.items }
+        ensures leaves { StayOrLeave IsTended (source_of S.Source) (sink_of W.Sink)
+            self.old.desk.lanes.items self.new.desk.lanes.items }
         ensures same { (self.new.keeps ≡ self.old.keeps) × (self.new.accepted ≡ self.old.accepted) }
         ensures kept { self.old.keeps ≡ true
             → StayAs IsTended self.old.desk.lanes.items self.new.desk.lanes.items
@@ -165,6 +178,18 @@ where
     {
         for at in 0..self.desk.lanes.len() {
             self.tend_at(rt, bells, at);
+        }
+    }
+
+    /// Frees the places of all sessions, which are over, and joins their workers.
+    pub fn leave_all<R: Threads + Wait>(&mut self, rt: &R)
+        requires seats { AreSeats self.old.keeps self.old.desk.lanes.items self.old.workers.items }
+        requires over { AreOver self.old.desk.lanes.items }
+        ensures left { HaveLeft (source_of S.Source) (sink_of W.Sink) self.old.desk.lanes.items }
+        ensures core { self.new.desk.core ≡ self.old.desk.core }
+    {
+        for place in 0..self.desk.lanes.len() {
+            self.leave(rt, place);
         }
     }
 }

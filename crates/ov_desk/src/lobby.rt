@@ -1,6 +1,8 @@
 ghost use Rattle.std.specs.Prelude.{◌≡◌, ◌⊎◌, ◌-◌, ◌^◌, [], IfOk, IfErr, OnErr};
+ghost use Rattle.ov_ends.specs.States.{source_of, sink_of};
 ghost use Rattle.ov_lanes.specs.declared.fault.ServeFault.TheVariants as serve_fault;
 ghost use Rattle.ov_lanes.specs.Lanes.{AreFree, Serves};
+ghost use Rattle.ov_desk.specs.Guests.{ServesGuests};
 ghost use Rattle.ov_desk.specs.Opening.{AreEmpty};
 ghost use Rattle.ov_desk.specs.Seats.{AreSeats};
 ghost use Rattle.ov_desk.specs.Serving.{ServesLobby};
@@ -109,7 +111,7 @@ fn shows_none_served<K: Keeper + Drop, D: Draws + Drop>(desk: &Desk<K, D>)
     let _ = desk.core.history();
 }
 
-/// Starts the accepting worker, and serves the connections it accepts with the desk in this thread.
+/// Starts the accepting worker, serves the connections it accepts with the desk in this thread, and joins all workers.
 fn serve_scoped<'s, E, R, K, D, L, G, S, W, T, C>(
     common: Common<'s, R, L, G>,
     scope: &Scope<'s, E>,
@@ -132,6 +134,9 @@ where
     requires seats { AreSeats hall.keeps hall.desk.lanes.items hall.workers.items }
     ensures served { IfOk result
         (λ desk. ServesLobby C.tells hall.desk.core clock.old desk.core clock.new) }
+    ensures guests { IfOk result
+        (λ desk. ServesGuests (source_of S.Source) (sink_of W.Sink) C.tells hall.desk.core clock.old
+        desk.core clock.new) }
     ensures refused { IfErr result (λ r. (r.desk.core ≡ hall.desk.core)
         × (r.listener ≡ door.listener)) }
     ensures fault { IfErr result (λ r. r.fault ≡ serve_fault.Threads) }
@@ -164,6 +169,7 @@ where
     common.order.lock(common.rt).begin(true);
     common.order.wake();
     run(common, scope, bells, &mut hall, &mut Taken::new(), clock);
+    hall.leave_all(common.rt);
     accepting.join(common.rt);
     let Hall { desk, .. } = hall;
     Ok(desk)
@@ -191,6 +197,9 @@ where
     requires seats { AreSeats hall.keeps hall.desk.lanes.items hall.workers.items }
     ensures served { IfOk result
         (λ desk. ServesLobby C.tells hall.desk.core clock.old desk.core clock.new) }
+    ensures guests { IfOk result
+        (λ desk. ServesGuests (source_of S.Source) (sink_of W.Sink) C.tells hall.desk.core clock.old
+        desk.core clock.new) }
     ensures refused { IfErr result (λ r. (r.desk.core ≡ hall.desk.core)
         × (r.listener ≡ door.listener)) }
     ensures fault { IfErr result (λ r. r.fault ≡ serve_fault.Threads) }
@@ -207,6 +216,9 @@ where
             ensures served { IfOk result.0
                 (λ desk. ServesLobby C.tells hall.desk.core clock.entry.now desk.core
                 result.1.now) }
+            ensures guests { IfOk result.0
+                (λ desk. ServesGuests (source_of S.Source) (sink_of W.Sink) C.tells hall.desk.core
+                clock.entry.now desk.core result.1.now) }
             ensures refused { IfErr result.0 (λ r. (r.desk.core ≡ hall.desk.core)
                 × (r.listener ≡ door.listener)) }
             ensures fault { IfErr result.0 (λ r. r.fault ≡ serve_fault.Threads) }
@@ -245,6 +257,9 @@ where
     requires name { blank.name ≡ L.name }
     requires parts { (blank.parts ≡ L.parts) × (blank.parts ≡ 2 ^ 64 - 1) }
     ensures served { IfOk result (λ desk. ServesLobby C.tells core clock.old desk.core clock.new) }
+    ensures guests { IfOk result
+        (λ desk. ServesGuests (source_of S.Source) (sink_of W.Sink) C.tells core clock.old desk.core
+        clock.new) }
     ensures refused { IfErr result (λ r. (r.desk.core ≡ core) × (r.listener ≡ listener)) }
     ensures fault { IfErr result (λ r. (r.fault ≡ serve_fault.Memory)
         ⊎ (r.fault ≡ serve_fault.Threads)) }
@@ -296,10 +311,10 @@ where
 /// all sessions are over (RFC 7047, 4). Then the desk comes back.
 ///
 /// A session ends as in `serve_links`: when its reader's input ends, a read fails or its stream is damaged, when more than
-/// 1,024 frames wait for its writer, or when an allocation for its request fails. Other sessions are not delayed. Once a
-/// session's reader has ended, and its writer has written what was sent to it, both are dropped, which closes the
-/// connection, and the place is free for another. A session that is closed before its input ends keeps its place until the
-/// input ends.
+/// 1,024 frames wait for its writer, or when an allocation for its request fails. What was read of it, what was written to it
+/// and why it was closed fits the history in the same way. Other sessions are not delayed. Once a session's reader has ended,
+/// and its writer has written what was sent to it, both are dropped, which closes the connection, and the place is free for
+/// another. A session that is closed before its input ends keeps its place until the input ends.
 ///
 /// A connection is dropped at once, with nothing read from it or written to it, if there is no place for it, the machine
 /// refuses it, an allocation fails or a thread can't be started. Up to 64 connections wait for the desk; then the listener
@@ -329,6 +344,9 @@ where
     T: Listen<S, W> + Send + Drop,
     C: Clock,
     ensures served { IfOk result (λ d. ServesLobby C.tells desk.core clock.old d.core clock.new) }
+    ensures guests { IfOk result
+        (λ d. ServesGuests (source_of S.Source) (sink_of W.Sink) C.tells desk.core clock.old d.core
+        clock.new) }
     ensures refused { IfErr result (λ r. (r.desk.core ≡ desk.core) × (r.listener ≡ listener)) }
     ensures fault { IfErr result (λ r. (r.fault ≡ serve_fault.Memory)
         ⊎ (r.fault ≡ serve_fault.Threads)) }

@@ -1,7 +1,9 @@
 ghost use Rattle.std.specs.Prelude.{◌≡◌, ◌++◌, ◌∷◌, [], ℕ, List, option_to_list};
+ghost use Rattle.ov_ends.specs.States.{source_of, sink_of};
 ghost use Rattle.ov_lanes.specs.Lanes.{AreOver, GoesOn, SameLane, StayAs};
+ghost use Rattle.ov_desk.specs.Guests.{HostsBy, HostsOn, SameSession, StayOrLeave};
 ghost use Rattle.ov_desk.specs.Seats.{AreSeats};
-ghost use Rattle.ov_desk.specs.Serving.{KeepsHall, RunsBy, TakesNoted};
+ghost use Rattle.ov_desk.specs.Serving.{IsTended, KeepsHall, RunsBy, TakesNoted};
 
 use crate::accept::LOBBY;
 use crate::admit::admit;
@@ -77,6 +79,8 @@ where
     ensures goes { (moment : ℕ)
         → GoesOn moment hall.old.desk.core hall.old.desk.lanes.items hall.new.desk.core
         hall.new.desk.lanes.items }
+    ensures leaves { StayOrLeave IsTended (source_of S.Source) (sink_of W.Sink)
+        hall.old.desk.lanes.items hall.new.desk.lanes.items }
     ensures seats { AreSeats hall.new.keeps hall.new.desk.lanes.items hall.new.workers.items }
     ensures honest { K.is_honest hall.new.desk.core.keeper → K.is_honest hall.old.desk.core.keeper }
 {
@@ -114,6 +118,8 @@ where
     requires seats { AreSeats hall.old.keeps hall.old.desk.lanes.items hall.old.workers.items }
     ensures goes { GoesOn moment hall.old.desk.core hall.old.desk.lanes.items hall.new.desk.core
         hall.new.desk.lanes.items }
+    ensures leaves { StayOrLeave SameSession (source_of S.Source) (sink_of W.Sink)
+        hall.old.desk.lanes.items hall.new.desk.lanes.items }
     ensures kept { KeepsHall (note ∷ []) hall.old.keeps hall.old.accepted hall.old.desk.lanes.items
         hall.old.workers hall.new.keeps hall.new.accepted hall.new.desk.lanes.items
         hall.new.workers }
@@ -148,6 +154,8 @@ where
     requires seats { AreSeats hall.old.keeps hall.old.desk.lanes.items hall.old.workers.items }
     ensures goes { GoesOn moment hall.old.desk.core hall.old.desk.lanes.items hall.new.desk.core
         hall.new.desk.lanes.items }
+    ensures hosts { HostsOn (source_of S.Source) (sink_of W.Sink) moment hall.old.desk.core
+        hall.old.desk.lanes.items hall.new.desk.core hall.new.desk.lanes.items }
     ensures kept { KeepsHall (option_to_list note) hall.old.keeps hall.old.accepted
         hall.old.desk.lanes.items hall.old.workers hall.new.keeps hall.new.accepted
         hall.new.desk.lanes.items hall.new.workers }
@@ -190,6 +198,8 @@ where
     requires seats { AreSeats hall.old.keeps hall.old.desk.lanes.items hall.old.workers.items }
     ensures runs { RunsBy C.tells hall.old.desk.core hall.old.desk.lanes.items clock.old
         hall.new.desk.core hall.new.desk.lanes.items clock.new }
+    ensures hosts { HostsBy (source_of S.Source) (sink_of W.Sink) C.tells hall.old.desk.core
+        hall.old.desk.lanes.items clock.old hall.new.desk.core hall.new.desk.lanes.items clock.new }
     ensures over { AreOver hall.new.desk.lanes.items }
     ensures kept { (notes : List ℕ) × (taken.new.serials ≡ taken.old.serials ++ notes)
         × KeepsHall notes hall.old.keeps hall.old.accepted hall.old.desk.lanes.items

@@ -1,47 +1,24 @@
-use Rattle.std.proofs.Common.{◌++◌, Bool, true, refl, sym, ap, ◌∙◌, subst}
-use Rattle.rtrb.specs.Ring.{sent, received, known_items}
+use Rattle.std.proofs.Common.{true, refl, subst}
 use Rattle.ov_ends.specs.States.{source_of, sink_of}
-use Rattle.ov_lanes.specs.Fitting.{FitsCourse}
 use Rattle.ov_desk.specs.Ending.{CourseEnds}
-use Rattle.ov_desk.proofs.Sides.{ends_for}
-use Rattle.ov_desk.proofs.Seats.{pair_outbound, pair_inbound, kept_not_none, kept_is}
+use Rattle.ov_desk.proofs.Seats.{kept_not_none, kept_is}
 use Rattle.ov_desk.proofs.finish.finish_link.Goals as goal
-
-pub slots_beside-requires : goal.slots_beside-requires
-slots_beside-requires g c =
-    let k = c.requires.link in let r = c.join-read.ensures.reading k.0.reader k.1.0 in
-    pair_outbound c.args.workers.reading.handle.promise.inlet.value.ring c.join-read.result.0.inlet.ring c.args.lane.inbound r.0.0 c.requires.workers.reads
-
-pub slots_beside-requires-2 : goal.slots_beside-requires-2
-slots_beside-requires-2 g c =
-    let k = c.requires.link in let r = c.join-read.ensures.writing k.0.writer k.1.1 in
-    pair_inbound c.args.lane.outbound c.args.workers.writing.handle.promise.ring.value c.join-read.result.1.ring r.0 c.requires.workers.writes
 
 pub unreachable-requires : goal.unreachable-requires
 unreachable-requires g c =
-    let k = c.requires.link in let r = c.join-read.ensures.reading k.0.reader k.1.0 in
-    kept_not_none c.args.workers.reading.handle.promise.keeps c.join-read.result.0.reader c.join-read.result.0.reader c.join-read.result.0.last.value c.requires.workers.keep.0 r.2 refl c.in_default.is
+    let left = c.join_workers-reader.result in
+    kept_not_none true left.reader left.reader left.last_reader.value refl (c.join_workers-reader.ensures.keep true c.requires.workers).0 refl c.in_default.is
 
 pub unreachable-requires-in_default-writer : goal.unreachable-requires-in_default-writer
 unreachable-requires-in_default-writer g c =
-    let k = c.requires.link in let v = c.join-read.ensures.writing k.0.writer k.1.1 in
-    kept_not_none c.args.workers.writing.handle.promise.keeps c.join-read.result.1.writer c.join-read.result.1.writer c.join-read.result.1.last.value c.requires.workers.keep.1 v.2 refl c.in_default-writer.is
+    let left = c.join_workers-reader.result in
+    kept_not_none true left.writer left.writer left.last_writer.value refl (c.join_workers-reader.ensures.keep true c.requires.workers).1 refl c.in_default-writer.is
 
 pub returns-clause-ends : goal.returns-clause-ends
 returns-clause-ends g c k link course f =
-    let lane = c.args.lane in let left = c.join-read.result.0 in let wrote = c.join-read.result.1 in
-    let r = c.join-read.ensures.reading k.reader link.0 in let v = c.join-read.ensures.writing k.writer link.1 in
+    let left = c.join_workers-reader.result in let keep = c.join_workers-reader.ensures.keep true c.requires.workers in
     let source = λ (s : _). source_of g.S.Source s in let sink = λ (s : _). sink_of g.W.Sink s in
-    let over : FitsCourse course lane.cause (received lane.inbound) (sent lane.outbound) true true =
-    subst (λ (b : Bool). FitsCourse course lane.cause (received lane.inbound) (sent lane.outbound) b true) c.requires.over.1
-    (subst (λ (b : Bool). FitsCourse course lane.cause (received lane.inbound) (sent lane.outbound) lane.marked b) c.requires.over.0 f) in
-    let rest = known_items c.slots_beside.new.self in let coming = known_items c.slots_beside-2.new.self in
-    let ends = ends_for course lane.cause (received lane.inbound) rest (sent left.inlet.ring) (sent lane.outbound) (received wrote.ring) coming over
-    (source k.reader) (source left.last.value) (sink k.writer) (sink wrote.last.value) left.cause wrote.failed c.told.result
-    (ap (λ x. x ++ rest) (sym c.slots_beside.ensures.looked.1) ∙ (c.slots_beside.ensures.fifo ∙ c.slots_beside.ensures.producer.1))
-    (ap (λ x. x ++ coming) (sym c.slots_beside-2.ensures.looked.1) ∙ (c.slots_beside-2.ensures.fifo ∙ c.slots_beside-2.ensures.producer.1))
-    r.1 v.1 c.told.ensures in
-    let a = kept_is c.args.workers.reading.handle.promise.keeps left.reader left.reader left.last.value c.in-Some.reader c.requires.workers.keep.0 r.2 refl c.in-Some.is in
-    let b = kept_is c.args.workers.writing.handle.promise.keeps wrote.writer wrote.writer wrote.last.value c.in-Some-writer.writer c.requires.workers.keep.1 v.2 refl c.in-Some-writer.is in
-    subst (λ x. CourseEnds course c.told.result (source k.reader) (source x) (sink k.writer) (sink c.in-Some-writer.writer)) a
-    (subst (λ y. CourseEnds course c.told.result (source k.reader) (source left.last.value) (sink k.writer) (sink y)) b ends)
+    let a = kept_is true left.reader left.reader left.last_reader.value c.in-Some.reader refl keep.0 refl c.in-Some.is in
+    let b = kept_is true left.writer left.writer left.last_writer.value c.in-Some-writer.writer refl keep.1 refl c.in-Some-writer.is in
+    subst (λ x. CourseEnds course left.cause (source k.reader) (source x) (sink k.writer) (sink c.in-Some-writer.writer)) a
+    (subst (λ y. CourseEnds course left.cause (source k.reader) (source left.last_reader.value) (sink k.writer) (sink y)) b (c.join_workers-reader.ensures.ends k link course f))

@@ -1,5 +1,7 @@
 use Rattle.std.proofs.Common.{◌++◌, [], refl, sym, ap, ◌∙◌, append-nil}
 use Rattle.std.specs.Prelude.{option_to_list}
+use Rattle.ov_ends.specs.States.{source_of, sink_of}
+use Rattle.ov_desk.proofs.Guests.{hosts_first, hosts_more}
 use Rattle.ov_desk.proofs.Running.{runs_none, runs_more, kept_tended, tended_all, hall_along, noted_more, briefly}
 use Rattle.ov_desk.proofs.run.run.Goals.{in-None-due, in-Some-due}
 use Rattle.ov_desk.proofs.run.run.Goals as goal
@@ -9,6 +11,7 @@ loop-init g c =
     let ls = c.args.hall.now.desk.lanes.items in
     record {
       runs = runs_none g.C.Clock.tells c.args.hall.now.desk.core ls c.args.clock.now;
+      hosts = hosts_first (source_of g.S.Source) (sink_of g.W.Sink) g.C.Clock.tells c.args.hall.now.desk.core ls c.args.clock.now;
       kept = ([], sym (append-nil c.args.taken.now.serials), λ keeps none. (keeps, none, refl, λ apart. kept_tended ls ls (tended_all ls)));
       honest = λ honest. honest;
       seats = c.requires.seats;
@@ -20,6 +23,8 @@ loop-preserved g c =
     let a = c.args.hall.now in let b = c.loop.hall in let h = c.serve_note.new.hall in
     record {
       runs = runs_more g.C.Clock.tells a.desk.core b.desk.core h.desk.core a.desk.lanes.items b.desk.lanes.items h.desk.lanes.items c.args.clock.now c.loop.clock c.now.new.self c.now.result was.runs c.now.ensures c.serve_note.ensures.goes;
+      hosts = hosts_more (source_of g.S.Source) (sink_of g.W.Sink) g.C.Clock.tells a.desk.core b.desk.core h.desk.core a.desk.lanes.items b.desk.lanes.items h.desk.lanes.items
+          c.args.clock.now c.loop.clock c.now.new.self c.now.result was.hosts c.now.ensures c.serve_note.ensures.hosts;
       kept = (
         was.kept.0 ++ note,
         elim c.match-due.branch [

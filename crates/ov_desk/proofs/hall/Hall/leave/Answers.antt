@@ -1,26 +1,70 @@
-use Rattle.std.proofs.Common.{rules, List, Option, sym, subst, ◌∙◌, None, refl, slice_set}
+use Rattle.std.proofs.Common.{rules, List, Option, refl, sym, subst, ◌∙◌, None, slice_set}
+use Rattle.ov_ends.specs.States.{source_of, sink_of}
 use Rattle.ov_lanes.specs.Lanes.{GoesOn}
 use Rattle.ov_lanes.specs.declared.lane.Lane.{Lane}
+use Rattle.ov_desk.specs.Guests.{StayOrLeave}
 use Rattle.ov_desk.specs.Seats.{AreSeats}
-use Rattle.ov_desk.proofs.Seats.{seats_set, seated_at}
+use Rattle.ov_desk.specs.Serving.{IsTended}
+use Rattle.ov_desk.proofs.Guests.{leaves_at, leaves_free}
 use Rattle.ov_desk.proofs.Halls.{goes_left}
+use Rattle.ov_desk.proofs.Seats.{seats_set, seated_at, seated_works}
 use Rattle.ov_desk.proofs.hall.Hall.leave.Goals as goal
 
-pub join-left-requires-clause-reading : goal.join-left-requires-clause-reading
-join-left-requires-clause-reading g c =
-    let x = seated_at c.args.self.now.keeps c.args.self.now.desk.lanes.items c.args.self.now.workers.items c.args.at c.in-Some.workers (sym c.take_out.ensures.0 ∙ c.in-Some.is) c.requires.seats in (x.0.reader, x.1.0)
+pub unreachable-requires : goal.unreachable-requires
+unreachable-requires g c =
+    let was = c.args.self.now in
+    seated_works was.keeps was.desk.lanes.items was.workers.items c.args.at c.in-Some.lane (sym c.take_out-place.ensures.0 ∙ c.in-Some.is) (sym c.take_out-seat.ensures.0 ∙ c.in_default-seat.is) c.requires.seats
 
-pub join-left-requires-clause-writing : goal.join-left-requires-clause-writing
-join-left-requires-clause-writing g c =
-    let x = seated_at c.args.self.now.keeps c.args.self.now.desk.lanes.items c.args.self.now.workers.items c.args.at c.in-Some.workers (sym c.take_out.ensures.0 ∙ c.in-Some.is) c.requires.seats in (x.0.writer, x.1.1)
+pub join_workers-left-requires-clause-workers : goal.join_workers-left-requires-clause-workers
+join_workers-left-requires-clause-workers g c =
+    let was = c.args.self.now in
+    (was.keeps, (seated_at was.keeps was.desk.lanes.items was.workers.items c.args.at c.in-Some.lane c.in-Some-seat.workers (sym c.take_out-place.ensures.0 ∙ c.in-Some.is) (sym c.take_out-seat.ensures.0 ∙ c.in-Some-seat.is) c.requires.seats).0)
 
-pub returns-in-Some-clause-goes : goal.returns-in-Some-clause-goes
-returns-in-Some-clause-goes g c moment =
-    let core = c.args.self.now.desk.core in let ls = c.args.self.now.desk.lanes.items in let left = c.requires.left in
-    subst (λ (l : List (Option Lane)). GoesOn moment core ls core l) (sym c.take_out-lane.ensures.1) (goes_left moment ls c.args.at (search rules) left.1.0 left.1.1 left.1.2)
+pub join_workers-left-requires-clause-link : goal.join_workers-left-requires-clause-link
+join_workers-left-requires-clause-link g c =
+    let was = c.args.self.now in
+    (seated_at was.keeps was.desk.lanes.items was.workers.items c.args.at c.in-Some.lane c.in-Some-seat.workers (sym c.take_out-place.ensures.0 ∙ c.in-Some.is) (sym c.take_out-seat.ensures.0 ∙ c.in-Some-seat.is) c.requires.seats).1
 
-pub returns-in-Some-clause-seats : goal.returns-in-Some-clause-seats
-returns-in-Some-clause-seats g c =
+pub join_workers-left-requires-clause-over : goal.join_workers-left-requires-clause-over
+join_workers-left-requires-clause-over g c = c.requires.over c.in-Some.lane (sym c.take_out-place.ensures.0 ∙ c.in-Some.is)
+
+pub returns-in_default-clause-goes : goal.returns-in_default-clause-goes
+returns-in_default-clause-goes g c moment =
+    let core = c.args.self.now.desk.core in let ls = c.args.self.now.desk.lanes.items in
+    subst (λ (l : List (Option Lane)). GoesOn moment core ls core l) (sym c.take_out-place.ensures.1) (goes_left moment ls c.args.at (search rules) (λ l is. (c.requires.over l is).0))
+
+pub returns-clause-goes : goal.returns-clause-goes
+returns-clause-goes g c moment =
+    let core = c.args.self.now.desk.core in let ls = c.args.self.now.desk.lanes.items in
+    subst (λ (l : List (Option Lane)). GoesOn moment core ls core l) (sym c.take_out-place.ensures.1) (goes_left moment ls c.args.at (search rules) (λ l is. (c.requires.over l is).0))
+
+pub returns-in_default-clause-seats : goal.returns-in_default-clause-seats
+returns-in_default-clause-seats g c =
     let keeps = c.args.self.now.keeps in
-    subst (λ l. AreSeats keeps l c.take_out.new.places.items) (sym c.take_out-lane.ensures.1)
-    (subst (λ v. AreSeats keeps (slice_set c.args.self.now.desk.lanes.items c.args.at None) v) (sym c.take_out.ensures.1) (seats_set keeps c.args.self.now.desk.lanes.items c.args.self.now.workers.items c.args.at None None (search rules) refl c.requires.seats))
+    subst (λ l. AreSeats keeps l c.take_out-seat.new.places.items) (sym c.take_out-place.ensures.1)
+    (subst (λ v. AreSeats keeps (slice_set c.args.self.now.desk.lanes.items c.args.at None) v) (sym c.take_out-seat.ensures.1) (seats_set keeps c.args.self.now.desk.lanes.items c.args.self.now.workers.items c.args.at None None (search rules) refl c.requires.seats))
+
+pub returns-clause-seats : goal.returns-clause-seats
+returns-clause-seats g c =
+    let keeps = c.args.self.now.keeps in
+    subst (λ l. AreSeats keeps l c.take_out-seat.new.places.items) (sym c.take_out-place.ensures.1)
+    (subst (λ v. AreSeats keeps (slice_set c.args.self.now.desk.lanes.items c.args.at None) v) (sym c.take_out-seat.ensures.1) (seats_set keeps c.args.self.now.desk.lanes.items c.args.self.now.workers.items c.args.at None None (search rules) refl c.requires.seats))
+
+pub returns-in_default-clause-leaves : goal.returns-in_default-clause-leaves
+returns-in_default-clause-leaves g c =
+    let source = λ (s : _). source_of g.S.Source s in let sink = λ (s : _). sink_of g.W.Sink s in let ls = c.args.self.now.desk.lanes.items in
+    subst (λ (l : List (Option Lane)). StayOrLeave IsTended source sink ls l) (sym c.take_out-place.ensures.1) (leaves_free source sink ls c.args.at (sym c.take_out-place.ensures.0 ∙ c.in_default.is))
+
+pub returns-clause-leaves : goal.returns-clause-leaves
+returns-clause-leaves g c =
+    let source = λ (s : _). source_of g.S.Source s in let sink = λ (s : _). sink_of g.W.Sink s in
+    let was = c.args.self.now in let ls = was.desk.lanes.items in let lane = c.in-Some.lane in let left = c.join_workers-left.result in
+    let is = sym c.take_out-place.ensures.0 ∙ c.in-Some.is in
+    let seat = seated_at was.keeps ls was.workers.items c.args.at lane c.in-Some-seat.workers is (sym c.take_out-seat.ensures.0 ∙ c.in-Some-seat.is) c.requires.seats in
+    subst (λ (l : List (Option Lane)). StayOrLeave IsTended source sink ls l) (sym c.take_out-place.ensures.1)
+    (leaves_at source sink ls c.args.at lane is (record {
+      link = seat.1.0;
+      remains = record { serial = lane.session.serial; cause = left.cause; reader = left.last_reader.value; writer = left.last_writer.value };
+      ended = (c.requires.over lane is).0;
+      ends = (refl, λ course fits. c.join_workers-left.ensures.ends seat.1.0 seat.1.1 course fits);
+    }))
