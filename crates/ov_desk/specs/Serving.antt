@@ -33,7 +33,7 @@ pub record TakesTime {C : Type 0} (tells : C → ℕ → C → Type 0) (old : St
 
 -- ---- links
 
--- The links were served by this clock, and this is what the core made of it. Sessions that were there before were not meant.
+-- The links were served by this clock, and this is what the core made of it. Sessions from before are not served.
 pub record ServesAll {K D S W C : Type 0} (source : S → SourceState) (sink : W → SinkState) (tells : C → ℕ → C → Type 0) (old : CoreState K D) (clock : C) (new : CoreState K D) (clock' : C) (links : List (Link S W)) (ends : List (End S W)) : Type 0 where
   pub since : Since old new
   pub all : AllEnd source sink since old.state.next links ends
@@ -50,7 +50,7 @@ RefusesLinks count old fault.Memory new = (has_places count old.state ≡ true) 
 -- ---- a lobby
 
 -- Whatever history the core had followed, it follows a longer one, by this clock. Every session that is open was open before, and
--- sessions that were there before were not meant.
+-- sessions from before are not served.
 pub record ServesLobby {K D C : Type 0} (tells : C → ℕ → C → Type 0) (old : CoreState K D) (clock : C) (new : CoreState K D) (clock' : C) : Type 0 where
   pub since : Since old new
   pub closed : (n : ℕ) → is_open old.state n ≡ false → is_open new.state n ≡ false
@@ -95,7 +95,7 @@ abbrev pub TakesNoted : ℕ → List (Option Lane) → Bool → List (Option Lan
 TakesNoted serial ls true ms = TakesOne serial ls ms
 TakesNoted serial ls false ms = (ms ≡ ls) × ((at : ℕ) (l : Lane) → IsAt ls at l → l.session.serial ≢ serial)
 
--- only the news of a lane were told
+-- only the writer of a lane was told of what was put for it
 abbrev pub IsTended : Lane → Lane → Type 0
 IsTended a b =
     (b.inbound ≡ a.inbound) × (b.outbound ≡ a.outbound) × (b.session ≡ a.session) × (b.cause ≡ a.cause) × (b.ended ≡ a.ended) × (b.marked ≡ a.marked)

@@ -15,7 +15,7 @@ pub(crate) const LOBBY: u64 = 0;
 /// What the accepting worker brings the desk: the links of connections, and last that there are no more.
 pub(crate) type Accepted<S, W> = Brought<Link<S, W>, ()>;
 
-/// Waits until it is said whether the workers may begin, and for the listener that it is handed. Brings the desk what the
+/// Waits until `begin` was called, and for the listener that it is handed. Brings the desk what the
 /// listener gives until that gives no more, and last that there is nothing more. It waits while 64 connections wait for the
 /// desk.
 ///

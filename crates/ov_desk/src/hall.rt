@@ -37,7 +37,7 @@ pub(crate) struct Hall<K: Keeper, D: Draws, S: Source, W: Sink, L: Ledger> {
     pub keeps: bool,
 }
 
-/// Takes what is in a place out of it.
+/// Empties a place, and returns what was in it.
 fn take_out<T: Drop>(places: &mut Vec<Option<T>>, at: usize) -> Option<T>
     requires { at < vec_len places.old }
     ensures { (result ≡ slice_index_or places.old.items at None)

@@ -47,7 +47,7 @@ pub(crate) struct Room<S: Source, W: Sink, L: Ledger> {
     pub ends: VecDeque<End<S, W>>,
 }
 
-/// Takes this room.
+/// Allocates it.
 fn room_for<S: Source + Drop, W: Sink + Drop, L: Ledger>(
     alloc: Global,
     count: usize,

@@ -2,7 +2,6 @@ use ov_lanes::Link;
 
 /// Gives connections, one after another.
 pub trait Listen<S, W> {
-    /// The two ends of the next connection, once there is one. None if there will be no more; then it isn't asked again, but
-    /// dropped.
+    /// The two ends of the next connection, once there is one. None if there are no more; the listener is then dropped.
     fn accept(&mut self) -> Option<Link<S, W>>;
 }

@@ -63,7 +63,7 @@ struct Room<S: Source, W: Sink, L: Ledger, T> {
     hand: HandRing<T>,
 }
 
-/// Takes this room.
+/// Allocates it.
 fn take_room<S: Source + Drop, W: Sink + Drop, L: Ledger, T: Drop>(
     alloc: Global,
     book: Book<L>,

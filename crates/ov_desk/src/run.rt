@@ -33,8 +33,8 @@ fn pop_once_seen<R: Wait, T: Drop>(rt: &R, ring: &mut Consumer<T>) -> T {
     unreachable!()
 }
 
-/// Takes an item of the session of this serial once it is seen, as `Desk::turn` does. A session without a place has brought
-/// nothing that is still taken: then returns false, and nothing is changed.
+/// Takes an item of the session of this serial once it is seen, as `Desk::turn` does. If the session has no place, takes
+/// nothing, changes nothing and returns false.
 fn turn_once_seen<R: Wait, K: Keeper + Drop, D: Draws + Drop>(
     rt: &R,
     alloc: Global,

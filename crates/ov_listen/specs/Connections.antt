@@ -11,7 +11,8 @@ use Rattle.ov_lanes.specs.declared.link.Link.{Link}
 use Rattle.ov_lanes.specs.declared.fault.ServeFault.{ServeFault}
 use Rattle.ov_lanes.specs.Pairs.{Pairwise}
 use Rattle.ov_desk.specs.declared.link.End.{End}
-use Rattle.ov_desk.specs.Serving.{RefusesLinks, ServesAll, ServesLobby}
+use Rattle.ov_desk.specs.Guests.{ServesGuests}
+use Rattle.ov_desk.specs.Serving.{RefusesLinks, ServesAll}
 use Rattle.ov_sockets.specs.declared.fault.ListenFault.{ListenFault}
 use Rattle.ov_sockets.specs.Links.{IsLinkOf}
 use Rattle.ov_words.specs.declared.ending.Ending.{Ending}
@@ -25,12 +26,12 @@ SocketReader = Watched (Bor TcpStream)
 abbrev pub SocketWriter : Type 0
 SocketWriter = Watched (BufWriter (Bor TcpStream) Global)
 
--- what contracts see of its reader: what the system still has of it is not known
-abbrev pub socket_source : SocketReader → SourceState
+-- what contracts see of what reads from a connection: what the system still has of it is not known
+abbrev pub socket_source : {T : Type 0} → Watched T → SourceState
 socket_source w = source_state w.trace.bytes None w.ended w.failures
 
--- and of its writer
-abbrev pub socket_sink : SocketWriter → SinkState
+-- and of what writes to it
+abbrev pub socket_sink : {T : Type 0} → Watched T → SinkState
 socket_sink w = sink_state w.trace.bytes None w.flushed w.failures
 
 module _ {K D C : Type 0} where
@@ -50,7 +51,7 @@ module _ {K D C : Type 0} (tells : C → ℕ → C → Type 0) where
   pub record ServesConnections (old : CoreState K D) (clock : C) (streams : List TcpStream) (new : CoreState K D) (clock' : C) (ends : List (End SocketReader SocketWriter)) : Type 0 where
     pub links : List (Link SocketReader SocketWriter)
     pub own : Pairwise IsLinkOf links streams
-    pub served : ServesAll socket_source socket_sink tells old clock new clock' links ends
+    pub served : ServesAll (socket_source {T = Bor TcpStream}) (socket_sink {T = BufWriter (Bor TcpStream) Global}) tells old clock new clock' links ends
 
   -- This many connections were served to their ends, which is the end of the input; or they were not served; or there were
   -- fewer.
@@ -60,11 +61,11 @@ module _ {K D C : Type 0} (tells : C → ℕ → C → Type 0) where
       × (length streams ≡ count) × ServesConnections old clock streams new clock' ends))
       ⊎ (RefusesConnections old clock count told new clock' ⊎ FailsToListen old clock told new clock')
 
-  -- Every client was served, until no connection could be accepted; or the lobby was refused, no client was accepted, the
-  -- ending is that of the fault, and the core is as it was.
+  -- Every client that was given a session was served, until no connection could be accepted; or the lobby was refused, no client
+  -- was accepted, the ending is that of the fault, and the core is as it was.
   abbrev pub EndsEveryone : CoreState K D → C → Ending → CoreState K D → C → Type 0
   EndsEveryone old clock told new clock' =
-      ((told ≡ ending.Streams) × ServesLobby tells old clock new clock')
+      ((told ≡ ending.Streams) × ServesGuests (socket_source {T = TcpStream}) (socket_sink {T = BufWriter TcpStream Global}) tells old clock new clock')
       ⊎ ((fault : ServeFault) × (told ≡ by_serving fault) × (new ≡ old) × (clock' ≡ clock))
 
   -- This many connections were served if a number is given, and otherwise every client; or the server could not listen.
