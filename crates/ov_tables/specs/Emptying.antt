@@ -41,7 +41,7 @@ abbrev pub MayHold : Bool → List ℕ → State → Type 0
 MayHold in_cells text s =
     IsTrue s.is_open → MatchBool in_cells (HoldsCells text s.now) (HoldsLines text s.now)
 
--- the tables of stored format 2 are there, with no rows; whatever changes in them from then on, the rest is as it was
+-- the tables of stored format 2 are there, with no rows; whatever changes in them afterwards, the rest is as it was
 pub record Empties (old new : State) : Type 0 where
   pub mode : IsTrue new.in_transaction
   pub was_open : IsTrue old.is_open
