@@ -1,5 +1,5 @@
 -- How a transaction ends: the changes to make.
-use Rattle.std.proofs.Common.{◌≡◌, Result, Err, refl, sym, ap, subst, ◌∙◌}
+use Rattle.std.proofs.Common.{◌≡◌, ℕ, List, Result, Err, refl, sym, ap, subst, ◌∙◌}
 use Rattle.std.specs.FinMap.{empty}
 use Rattle.serde_json.specs.Data.{Items}
 use Rattle.ov_db.specs.Changing.{Delta, applied}
@@ -7,7 +7,8 @@ use Rattle.ov_integrity.specs.Finishing.{IsFinished}
 use Rattle.ov_integrity.specs.declared.finished.Finished.TheVariants.{Changed}
 use Rattle.ov_specs.specs.integrity.Committed.{committed}
 use Rattle.ov_specs.specs.operations.Errors.{OpError, error_tree}
-use Rattle.ov_specs.specs.operations.Transaction.{TransactionOutcome, Completes, ended, and_error}
+use Rattle.ov_specs.specs.operations.OpOutcome.{Owns}
+use Rattle.ov_specs.specs.operations.Transaction.{TransactionOutcome, Completes, ended, and_error, transaction}
 use Rattle.ov_specs.specs.rows.Database.{Database, same_database}
 use Rattle.ov_specs.specs.schema.SchemaTypes.{Schema}
 use Rattle.ov_specs.specs.values.Uuid.{Uuid}
@@ -41,3 +42,8 @@ pub ends_as : (schema : Schema) (version : Uuid) (before now rows : Database) (r
     → all ≡ prefixed results (ended rows (committed schema rows version now)) → IsPerformed (prefixed results (ended before (committed schema before version now))) before performed → IsPerformed all rows performed
 ends_as schema version before now rows results all performed is ends h =
     subst (λ o. IsPerformed o rows performed) (sym ends) (subst (λ db. IsPerformed (prefixed results (ended db (committed schema db version now))) db performed) is h)
+
+-- performed under the same schema
+pub performed_under : (owns : Owns) (draws : List Uuid) (age : ℕ) (operations : Items) (schema its_schema : Schema) (rows : Database) (performed : Performed) → its_schema ≡ schema
+    → IsPerformed (transaction its_schema rows owns draws age operations) rows performed → IsPerformed (transaction schema rows owns draws age operations) rows performed
+performed_under owns draws age operations schema its_schema rows performed same h = subst (λ (s : Schema). IsPerformed (transaction s rows owns draws age operations) rows performed) same h

@@ -25,30 +25,35 @@ IsAnswer (Completes made database) old results =
     ⊎ ((same_database old.committed database ≡ false) × (is_some old.sealed ≡ true) × (results ≡ failed_results made))
 IsAnswer (Waits timeout) old results = ⊥
 
+-- what an attempt may change: the database, and what makes ready
+pub record AttemptState (K R : Type 0) : Type 0 where
+  pub database : KeptDatabase K
+  pub ready : R
+
 -- The transaction changes a database that is not sealed, and what follows its commit was made ready, with the changes and its
 -- results, or could not be because an allocation failed.
-pub record MadeReady {K R : Type 0} (readies : Readies R K) (outcome : TransactionOutcome) (old : KeptDatabase K) (was : R) (ready : Bool) (is : R) : Type 0 where
+pub record MadeReady {K R : Type 0} (readies : Readies R K) (outcome : TransactionOutcome) (old : AttemptState K R) (all : Bool) (ready : R) : Type 0 where
   pub results : Items
   pub delta : Delta
-  pub completes : outcome ≡ Completes results (applied delta old.committed)
-  pub changes : same_database old.committed (applied delta old.committed) ≡ false
-  pub unsealed : old.sealed ≡ None
-  pub made : readies was old delta (replies_with results) ready is
+  pub completes : outcome ≡ Completes results (applied delta old.database.committed)
+  pub changes : same_database old.database.committed (applied delta old.database.committed) ≡ false
+  pub unsealed : old.database.sealed ≡ None
+  pub made : readies old.ready old.database delta (replies_with results) all ready
 
 -- The result of an attempt. If the transaction changes a database that is not sealed, all is made ready, and the database is
--- as a commit of its changes leaves it; otherwise nothing is changed.
-abbrev pub IsTried : {K R : Type 0} → Readies R K → TransactionOutcome → KeptDatabase K → R → Tried → KeptDatabase K → R → Type 0
-IsTried readies outcome old was (Answer results) new is = (new ≡ old) × (is ≡ was) × IsAnswer outcome old results
-IsTried readies outcome old was (Stored answer) new is = (r : MadeReady readies outcome old was true is) × Commits r.delta old answer new
-IsTried readies outcome old was (Blocked timeout) new is = (new ≡ old) × (is ≡ was) × (outcome ≡ Waits timeout)
-IsTried readies outcome old was NoMemory new is = (new ≡ old) × ((is ≡ was) ⊎ MadeReady readies outcome old was false is)
+-- as a commit of its changes leaves it; otherwise nothing is changed. If an allocation fails, the database is as before.
+abbrev pub IsTried : {K R : Type 0} → Readies R K → TransactionOutcome → AttemptState K R → Tried → AttemptState K R → Type 0
+IsTried readies outcome old (Answer results) new = (new.database ≡ old.database) × (new.ready ≡ old.ready) × IsAnswer outcome old.database results
+IsTried readies outcome old (Stored answer) new = (r : MadeReady readies outcome old true new.ready) × Commits r.delta old.database answer new.database
+IsTried readies outcome old (Blocked timeout) new = (new.database ≡ old.database) × (new.ready ≡ old.ready) × (outcome ≡ Waits timeout)
+IsTried readies outcome old NoMemory new = (new.database ≡ old.database) × ((new.ready ≡ old.ready) ⊎ MadeReady readies outcome old false new.ready)
 
 -- the same for a transaction with these results and changes, for which the store is to be asked
-abbrev pub IsAsked : {K R : Type 0} → Readies R K → Items → Delta → KeptDatabase K → R → Tried → KeptDatabase K → R → Type 0
-IsAsked readies results delta old was (Stored answer) new is = readies was old delta (replies_with results) true is × Commits delta old answer new
-IsAsked readies results delta old was NoMemory new is = (new ≡ old) × ((is ≡ was) ⊎ readies was old delta (replies_with results) false is)
-IsAsked readies results delta old was (Answer others) new is = ⊥
-IsAsked readies results delta old was (Blocked timeout) new is = ⊥
+abbrev pub IsAsked : {K R : Type 0} → Readies R K → Items → Delta → AttemptState K R → Tried → AttemptState K R → Type 0
+IsAsked readies results delta old (Stored answer) new = readies old.ready old.database delta (replies_with results) true new.ready × Commits delta old.database answer new.database
+IsAsked readies results delta old NoMemory new = (new.database ≡ old.database) × ((new.ready ≡ old.ready) ⊎ readies old.ready old.database delta (replies_with results) false new.ready)
+IsAsked readies results delta old (Answer others) new = ⊥
+IsAsked readies results delta old (Blocked timeout) new = ⊥
 
 -- the answer of a sealed database, unless an allocation fails
 abbrev pub IsSealedAnswer : Items → Tried → Type 0

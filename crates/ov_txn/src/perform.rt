@@ -8,7 +8,6 @@ ghost use Rattle.ov_specs.specs.integrity.Committed.{committed, is_whole};
 ghost use Rattle.ov_specs.specs.rows.Suits.{Suits};
 ghost use Rattle.ov_specs.specs.operations.Errors as spec;
 ghost use Rattle.ov_specs.specs.operations.Transaction.{and_error, and_item, ended, transaction};
-ghost use Rattle.ov_specs.specs.schema.Schema.{IsAccepted};
 ghost use Rattle.ov_specs.specs.values.Uuid.{is_uuid, uuid_at};
 ghost use Rattle.ov_projection.specs.Errors.{error_view};
 ghost use Rattle.ov_txn.specs.Performing.{IsPerformed, SuitsPerformed, WholePerformed};
@@ -16,16 +15,16 @@ ghost use Rattle.ov_txn.specs.Results.{nulls_after, prefixed};
 ghost use Rattle.ov_txn.specs.declared.perform.Performed.TheVariants.{Completed};
 
 use crate::results::{error_tree, push_nulls};
-use ov_db::Delta;
+use ov_db::{Db, Delta};
 use ov_given::NamedRows;
 use ov_index::Indexes;
 use ov_integrity::{Finished, finish};
+use ov_keeper::Keeper;
 use ov_ops::{OpCtx, OpOutcome, Owns, run_op};
 use ov_projection::OpError;
 use ov_refs::Links;
 use ov_requests::{Txn, are_uuids};
 use ov_results::ArrayText;
-use ov_rows::Rows;
 use ov_schema::Schema;
 use ov_stage::Stage;
 use serde_json::Value;
@@ -112,29 +111,26 @@ fn insert_draws(draws: &[Uuid]) -> &[Uuid]
     }
 }
 
-/// Performs the operations of a transaction in order, on a stage over the rows, and their commit.
-fn perform_operations<O: Owns>(
+/// Performs the operations of a transaction in order, on a stage over the rows of the database, and their commit.
+fn perform_operations<K: Keeper + Drop, O: Owns>(
     alloc: Global,
-    schema: &Schema,
-    rows: &Rows,
-    links: &Links,
-    indexes: &Indexes,
+    db: &Db<K>,
     txn: &Txn,
     owns: &O,
     age: u64,
 ) -> Result<Performed, AllocError>
-    requires drawn { list_all is_uuid txn.now.draws ≡ true }
-    requires suits { Suits schema.now rows.now }
-    requires whole { is_whole schema.now rows.now ≡ true }
-    requires linked { AreLinksOf schema.now rows.now links.now }
-    requires indexed { AreIndexesOf schema.now rows.now indexes.now }
+    requires { list_all is_uuid txn.now.draws ≡ true }
     ensures { IfOk result
         (IsPerformed
-        (transaction schema.now rows.now (O.owned owns.now) txn.now.draws age
+        (transaction db.now.schema db.now.committed (O.owned owns.now) txn.now.draws age
         txn.now.operations)
-        rows.now) }
+        db.now.committed) }
 {
     let mut results = ArrayText::new(alloc);
+    db.shows_kept();
+    let schema = db.schema();
+    let rows = db.rows();
+    let indexes = db.indexes();
     let mut stage = Stage::with_indexes(alloc, schema, rows, indexes);
     let version = version_of(txn.draws());
     let inserts = NamedRows::new(alloc, insert_draws(txn.draws()), txn.operations())?;
@@ -158,7 +154,7 @@ fn perform_operations<O: Owns>(
             OpOutcome::NoMemory => return Err(AllocError),
         }
     }
-    end(alloc, schema, version, links, indexes, results, stage)
+    end(alloc, schema, version, db.links(), indexes, results, stage)
 }
 
 /// Performs the operations of a transaction of this age in milliseconds, whose session owns these locks, in order, each on
@@ -166,31 +162,25 @@ fn perform_operations<O: Owns>(
 /// rows, removes the rows that nothing keeps and the weak references to rows that are gone, and refuses what then breaks a
 /// limit (3.2). If it refuses, one more result reports the error (4.1.3).
 ///
-/// The rows are not touched. The changes are empty exactly if nothing is to be changed. The rows, to which the links belong,
-/// are whole rows of the schema, and the changes make whole rows of the schema of them.
-pub(crate) fn perform<O: Owns>(
+/// The database is not changed. The changes are empty exactly if nothing is to be changed, and the rows after them are whole
+/// rows of the schema.
+pub(crate) fn perform<K: Keeper + Drop, O: Owns>(
     alloc: Global,
-    schema: &Schema,
-    rows: &Rows,
-    links: &Links,
-    indexes: &Indexes,
+    db: &Db<K>,
     txn: &Txn,
     owns: &O,
     age: u64,
 ) -> Result<Performed, AllocError>
-    requires accepted { IsAccepted schema.now }
-    requires suits { Suits schema.now rows.now }
-    requires whole { is_whole schema.now rows.now ≡ true }
-    requires linked { AreLinksOf schema.now rows.now links.now }
-    requires indexed { AreIndexesOf schema.now rows.now indexes.now }
     ensures performed { IfOk result
         (IsPerformed
-        (transaction schema.now rows.now (O.owned owns.now) txn.now.draws age
+        (transaction db.now.schema db.now.committed (O.owned owns.now) txn.now.draws age
         txn.now.operations)
-        rows.now) }
-    ensures suits { IfOk result (SuitsPerformed schema.now) }
-    ensures whole { IfOk result (WholePerformed schema.now rows.now) }
+        db.now.committed) }
+    ensures suits { IfOk result (SuitsPerformed db.now.schema) }
+    ensures whole { IfOk result (WholePerformed db.now.schema db.now.committed) }
 {
+    db.shows_kept();
+    db.schema().accepted();
     are_uuids(txn.draws());
-    perform_operations(alloc, schema, rows, links, indexes, txn, owns, age)
+    perform_operations(alloc, db, txn, owns, age)
 }

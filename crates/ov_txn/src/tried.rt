@@ -3,7 +3,6 @@ ghost use Rattle.ov_specs.specs.integrity.Committed.{is_whole};
 ghost use Rattle.ov_specs.specs.operations.Transaction.{failed_results, transaction};
 ghost use Rattle.ov_db.specs.Changing.{SuitsChanges, applied};
 ghost use Rattle.ov_txn.specs.Attempting.{IsTried, IsAsked, IsSealedAnswer, HasCause};
-ghost use Rattle.ov_txn.specs.Performing.{IsPerformed, SuitsPerformed, WholePerformed};
 
 use crate::perform::{Performed, perform};
 use crate::ready::{Ready, Replies};
@@ -31,37 +30,6 @@ pub enum Tried {
     NoMemory,
 }
 
-/// Performs a transaction of this age in milliseconds on the database as it is; its session owns these locks.
-fn perform_on<K: Keeper + Drop, O: Owns>(
-    alloc: Global,
-    db: &Db<K>,
-    txn: &Txn,
-    owns: &O,
-    age: u64,
-) -> Result<Performed, AllocError>
-    ensures performed { IfOk result
-        (IsPerformed
-        (transaction db.now.schema db.now.committed (O.owned owns.now) txn.now.draws age
-        txn.now.operations)
-        db.now.committed) }
-    ensures suits { IfOk result (SuitsPerformed db.now.schema) }
-    ensures whole { IfOk result (WholePerformed db.now.schema db.now.committed) }
-{
-    db.shows_kept();
-    let schema = db.schema();
-    schema.accepted();
-    perform(
-        alloc,
-        schema,
-        db.rows(),
-        db.links(),
-        db.indexes(),
-        txn,
-        owns,
-        age,
-    )
-}
-
 /// Tries a transaction of this age in milliseconds, whose session owns these locks, and counts the attempt.
 ///
 /// Performs the operations in order and commits by the rules for references, unreferenced rows and limits (RFC 7047, 3.2). If
@@ -80,14 +48,15 @@ pub fn attempt<K: Keeper + Drop, O: Owns, R: Ready<K>>(
     ensures tried { IsTried R.readies
         (transaction db.old.schema db.old.committed (O.owned owns.now) txn.now.draws age
         txn.now.operations)
-        db.old ready.old result db.new ready.new }
+        (record { database = db.old; ready = ready.old }) result
+        (record { database = db.new; ready = ready.new }) }
     ensures cause { HasCause K.failed result db.old db.new }
     ensures counts { K.failed db.old.keeper ≤ K.failed db.new.keeper }
     ensures honest { K.is_honest db.new.keeper → K.is_honest db.old.keeper }
     ensures counted { tries.new ≡ tries.old + 1 }
 {
     tries.add();
-    match perform_on(alloc, db, txn, owns, age) {
+    match perform(alloc, db, txn, owns, age) {
         Err(_) => Tried::NoMemory,
         Ok(Performed::Blocked(timeout)) => Tried::Blocked(timeout),
         Ok(Performed::Completed(results, delta)) => {
@@ -132,7 +101,9 @@ fn store<K: Keeper + Drop, R: Ready<K>>(
     requires unsealed { db.old.sealed ≡ None }
     requires suits { SuitsChanges db.old.schema delta }
     requires whole { is_whole db.old.schema (applied delta db.old.committed) ≡ true }
-    ensures asked { IsAsked R.readies results delta db.old ready.old result db.new ready.new }
+    ensures asked { IsAsked R.readies results delta
+        (record { database = db.old; ready = ready.old }) result
+        (record { database = db.new; ready = ready.new }) }
     ensures cause { HasCause K.failed result db.old db.new }
     ensures counts { K.failed db.old.keeper ≤ K.failed db.new.keeper }
     ensures honest { K.is_honest db.new.keeper → K.is_honest db.old.keeper }

@@ -10,9 +10,9 @@ use Rattle.ov_txn.proofs.perform.perform_operations.Given as goal
 
 abbrev pub invariant-loop-place : goal.invariant-loop-place
 invariant-loop-place g l = record {
-  going : spec.transaction l.schema l.rows (g.O.Owns.owned l.owns) l.txn.draws l.age l.txn.operations
-      ≡ prefixed l.results (spec.performed (context_of g.O.Owns.owned l.ctx l.rows) l.place (items_view (drop l.place l.operations)) l.stage.now);
-  before : l.stage.before ≡ l.rows;
+  going : spec.transaction l.schema l.db.committed (g.O.Owns.owned l.owns) l.txn.draws l.age l.txn.operations
+      ≡ prefixed l.results (spec.performed (context_of g.O.Owns.owned l.ctx l.db.committed) l.place (items_view (drop l.place l.operations)) l.stage.now);
+  before : l.stage.before ≡ l.db.committed;
   drawn : list_all is_uuid (l.ctx.version ∷ l.ctx.inserts.now.ids) ≡ true;
   suits : Suits l.schema l.stage.now;
 }
