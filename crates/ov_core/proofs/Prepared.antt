@@ -13,7 +13,7 @@ use Rattle.ov_specs.specs.machine.Machine as machine
 use Rattle.ov_specs.specs.machine.Machine.{Sent, results_to, updates_sent}
 use Rattle.ov_specs.specs.operations.Transaction.{TransactionOutcome, Waits, exhausted_results, failed_results}
 use Rattle.ov_specs.specs.wire.Frame.{frame, reply_tree}
-use Rattle.ov_txn.specs.Attempting.{IsTried}
+use Rattle.ov_txn.specs.Attempting.{AttemptState, IsTried}
 use Rattle.ov_txn.specs.Replying.{replies_with}
 use Rattle.ov_txn.specs.declared.tried.Tried.{Tried}
 use Rattle.ov_txn.specs.declared.tried.Tried.TheVariants.{Answer, Stored, Blocked, NoMemory}
@@ -24,9 +24,13 @@ use Rattle.ov_core.specs.declared.attempt.Trial.TheVariants.{Done}
 use Rattle.ov_history.specs.declared.event.Outcome.{Outcome}
 use Rattle.ov_core.specs.declared.replying.Replying.{Replying}
 use Rattle.ov_outbox.proofs.Answered.{sends_results, posts_after}
-use Rattle.ov_core.proofs.Workings.{answers, posts_from, sent_after, stored}
+use Rattle.ov_core.proofs.Workings.{request, trial_state, answers, posts_from, sent_after, stored}
 
 -- ---- what an attempt leaves of what was prepared
+
+-- what an attempt may change
+abbrev pub attempt_state : {K : Type 0} → KeptDatabase K → Replying → AttemptState K Replying
+attempt_state database ready = record { database = database; ready = ready }
 
 module _ {K : Type 0} (outcome : TransactionOutcome) (old : KeptDatabase K) (was : Replying) (none : was.prepared ≡ []) where
   more_places : (is : Replying) (other : ℕ) → ((base : ℕ) → places_for other was.queues ≡ base + count_of other was.prepared → places_for other is.queues ≡ base + count_of other is.prepared)
@@ -37,7 +41,7 @@ module _ {K : Type 0} (outcome : TransactionOutcome) (old : KeptDatabase K) (was
   same_places is other same = rw same (omega (arith, ap (count_of other) none))
 
   -- a place more for each frame that is prepared
-  pub tried_places : (tried : Tried) (new : KeptDatabase K) (is : Replying) → IsTried Prepares outcome old was tried new is → (other : ℕ) → places_for other is.queues ≡ places_for other was.queues + count_of other is.prepared
+  pub tried_places : (tried : Tried) (new : KeptDatabase K) (is : Replying) → IsTried Prepares outcome (attempt_state old was) tried (attempt_state new is) → (other : ℕ) → places_for other is.queues ≡ places_for other was.queues + count_of other is.prepared
   tried_places (Answer results) new is (same, still, answer) other = same_places is other still
   tried_places (Stored answer) new is (made, commits) other = more_places is other (made.made.places other)
   tried_places (Blocked timeout) new is (same, still, waits) other = same_places is other still
@@ -45,15 +49,15 @@ module _ {K : Type 0} (outcome : TransactionOutcome) (old : KeptDatabase K) (was
   tried_places NoMemory new is (same, inr made) other = more_places is other (made.made.places other)
 
   -- so that there is one for each of them
-  pub tried_room : (tried : Tried) (new : KeptDatabase K) (is : Replying) → IsTried Prepares outcome old was tried new is → (other : ℕ) → count_of other is.prepared ≤ places_for other is.queues
+  pub tried_room : (tried : Tried) (new : KeptDatabase K) (is : Replying) → IsTried Prepares outcome (attempt_state old was) tried (attempt_state new is) → (other : ℕ) → count_of other is.prepared ≤ places_for other is.queues
   tried_room tried new is h other = omega (arith, tried_places tried new is h other)
 
   -- and after them the places that were kept before
-  pub tried_keeps : (tried : Tried) (new : KeptDatabase K) (is : Replying) → IsTried Prepares outcome old was tried new is → (queues : Queues) (left : WaitingFrames) → HasRoom was.queues queues → TakesPlaces is.prepared is.queues left → HasRoom left queues
+  pub tried_keeps : (tried : Tried) (new : KeptDatabase K) (is : Replying) → IsTried Prepares outcome (attempt_state old was) tried (attempt_state new is) → (queues : Queues) (left : WaitingFrames) → HasRoom was.queues queues → TakesPlaces is.prepared is.queues left → HasRoom left queues
   tried_keeps tried new is h queues left room takes session = omega (arith, tried_places tried new is h session, takes session, room session)
 
   -- and the same frames wait
-  pub tried_waits : (tried : Tried) (new : KeptDatabase K) (is : Replying) → IsTried Prepares outcome old was tried new is → HasSameFrames was.queues is.queues
+  pub tried_waits : (tried : Tried) (new : KeptDatabase K) (is : Replying) → IsTried Prepares outcome (attempt_state old was) tried (attempt_state new is) → HasSameFrames was.queues is.queues
   tried_waits (Answer results) new is (same, still, answer) = rw still (λ other. refl)
   tried_waits (Stored answer) new is (made, commits) = made.made.waits
   tried_waits (Blocked timeout) new is (same, still, waits) = rw still (λ other. refl)
@@ -84,10 +88,10 @@ module _ {K : Type 0} (ms : List machine.Session) (n : ℕ) (id : Data) (results
 -- A transaction that is tried with these locks: what an attempt leaves, as it was prepared, is sent, and then waits.
 module _ {K : Type 0} (ms : List machine.Session) (n : ℕ) (id : Data) (to : Queues → TransactionOutcome) (queues locks : Queues) (old new : KeptDatabase K) (was is : Replying) (tried : Tried) (waited left between : WaitingFrames)
     (locks_are : locks ≡ queues) (waited_is : was.queues ≡ waited) (left_is : between ≡ left)
-    (was_tried : IsTried Prepares (to locks) old was tried new is) (sends : SendsPrepared tried is.prepared is.exhausted is.failed is.queues left) where
-  tried_as : (t : Tried) → tried ≡ t → IsTried Prepares (to queues) old was t new is
+    (was_tried : IsTried Prepares (to locks) (attempt_state old was) tried (attempt_state new is)) (sends : SendsPrepared tried is.prepared is.exhausted is.failed is.queues left) where
+  tried_as : (t : Tried) → tried ≡ t → IsTried Prepares (to queues) (attempt_state old was) t (attempt_state new is)
   tried_as t same =
-      subst (λ (u : Tried). IsTried Prepares (to queues) old was u new is) same (subst (λ (q : Queues). IsTried Prepares (to q) old was tried new is) locks_are was_tried)
+      subst (λ (u : Tried). IsTried Prepares (to queues) (attempt_state old was) u (attempt_state new is)) same (subst (λ (q : Queues). IsTried Prepares (to q) (attempt_state old was) tried (attempt_state new is)) locks_are was_tried)
 
   sends_as : (t : Tried) → tried ≡ t → SendsPrepared t is.prepared is.exhausted is.failed is.queues between
   sends_as t same =
@@ -96,14 +100,14 @@ module _ {K : Type 0} (ms : List machine.Session) (n : ℕ) (id : Data) (to : Qu
   waits_still : is ≡ was → HasSameFrames is.queues between → HasSameFrames waited between
   waits_still still same other = same other ∙ (ap (λ (r : Replying). waiting_for other r.queues) still ∙ ap (λ (w : WaitingFrames). waiting_for other w) waited_is)
 
-  pub trial_answered : (results : Items) (o : Option Outcome) (waits : WaitingFrames) → tried ≡ Answer results → PostsIfRoom (results_to n id results) between o waits → IsTrial ms n id (to queues) old waited (Done o) new waits
+  pub trial_answered : (results : Items) (o : Option Outcome) (waits : WaitingFrames) → tried ≡ Answer results → PostsIfRoom (results_to n id results) between o waits → IsTrial (request ms n id (to queues)) (trial_state old waited) (Done o) (trial_state new waits)
   trial_answered results o waits same posts =
       let t = tried_as (Answer results) same in
       let from = posts_from (results_to n id results) waited between o waits (waits_still t.1 (sends_as (Answer results) same)) posts in
-      subst (λ (k : KeptDatabase K). IsTrial ms n id (to queues) old waited (Done o) k waits) (sym t.0) (answers ms n id (to queues) results old o waited waits t.2 from)
+      subst (λ (k : KeptDatabase K). IsTrial (request ms n id (to queues)) (trial_state old waited) (Done o) (trial_state k waits)) (sym t.0) (answers ms n id (to queues) results old o waited waits t.2 from)
 
   pub trial_stored : (answer : StoreAnswer) (o : Outcome) → tried ≡ Stored answer → o ≡ outcome_after answer → was.prepared ≡ [] → was.session ≡ n → was.id.now ≡ id
-      → sessions_of was.audience.watchers.now was.audience.sessions.now.open_sessions ≡ ms → IsTrial ms n id (to queues) old waited (Done (Some o)) new between
+      → sessions_of was.audience.watchers.now was.audience.sessions.now.open_sessions ≡ ms → IsTrial (request ms n id (to queues)) (trial_state old waited) (Done (Some o)) (trial_state new between)
   trial_stored answer o same o_is none session id_is sessions =
       let t = tried_as (Stored answer) same in
       let made = t.0 in
@@ -111,7 +115,7 @@ module _ {K : Type 0} (ms : List machine.Session) (n : ℕ) (id : Data) (to : Qu
       let sent : PostsSent (sent_after answer ms n id made.results old made.delta) is.queues between =
       sent_by ms n id made.results old made.delta was is between none session id_is sessions ready.prepared answer (sends_as (Stored answer) same) in
       let waits : HasSameFrames waited is.queues = λ other. ready.waits other ∙ ap (λ (w : WaitingFrames). waiting_for other w) waited_is in
-      subst (λ (u : Outcome). IsTrial ms n id (to queues) old waited (Done (Some u)) new between) (sym o_is)
+      subst (λ (u : Outcome). IsTrial (request ms n id (to queues)) (trial_state old waited) (Done (Some u)) (trial_state new between)) (sym o_is)
       (stored ms n id (to queues) made.results old new made.delta waited between made.completes made.changes made.unsealed answer t.1
       (posts_after (sent_after answer ms n id made.results old made.delta) waited is.queues between waits sent))
 

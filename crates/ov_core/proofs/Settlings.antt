@@ -28,12 +28,12 @@ use Rattle.ov_history.specs.Entries.{attempt_view, listed_by, is_closing, is_kep
 use Rattle.ov_core.specs.Handling.{AsksStore, AsksAll, IsCompleted, IsTrial, listed_of, with_db}
 use Rattle.ov_core.specs.Sessions.{ClosesSession}
 use Rattle.ov_core.specs.States.{state_of, sessions_of}
-use Rattle.ov_core.specs.Settling.{IsSettling, Settles, AfterTry, tried_again, to_do}
+use Rattle.ov_core.specs.Settling.{SettlingState, IsSettling, Settles, AfterTry, tried_again, to_do}
 use Rattle.ov_outbox.proofs.Answered.{posts_then}
 use Rattle.ov_core.proofs.Asking.{asks_none, asks_one, asks_then}
 use Rattle.ov_core.proofs.Counting.{few_dropped, few_blocked, few_done, few_again, falls_dropped, falls_again}
 use Rattle.ov_core.proofs.Watching.{any-serial, filter-same, sessions-without}
-use Rattle.ov_core.proofs.Workings.{posts_none}
+use Rattle.ov_core.proofs.Workings.{request, trial_state, posts_none}
 
 -- ---- lists
 
@@ -122,6 +122,10 @@ still-same watching sessions waiting = filter-same _ _ (λ o. any-serial watchin
 
 -- ---- from one try to the next
 
+-- the live state, with these attempts listed
+abbrev pub settling_at : {K : Type 0} → Live K → List Attempt → SettlingState K
+settling_at live listed = record { live = live; listed = listed }
+
 module _ {K : Type 0} (failed : K → ℕ) (m first : ℕ) (from : Live K) (before : List Attempt) (now : Live K) (listed : List Attempt) (number : ℕ) where
   -- the bound on the number of the next try
   abbrev Few : ℕ → WaitingList → Type 0
@@ -130,10 +134,10 @@ module _ {K : Type 0} (failed : K → ℕ) (m first : ℕ) (from : Live K) (befo
       ≤ first + first + (length from.waiting.outstanding + length from.waiting.outstanding * length from.waiting.outstanding) + many w
 
   -- one attempt more
-  one_more : (x : IsSettling failed m first from before now listed number) (o : Option Outcome) (sent : List Sent) (new : Live K) (more : List Attempt) → more ≡ listed ++ listed_by number o
+  one_more : (x : IsSettling failed m first (settling_at from before) (settling_at now listed) number) (o : Option Outcome) (sent : List Sent) (new : Live K) (more : List Attempt) → more ≡ listed ++ listed_by number o
       → Reaches (state_of from m) first (x.made ++ made_by number (listed_of o)) (state_of new m) (x.sent ++ sent) (number + 1) new.waiting.untried
       → PostsSent sent now.outbox.frames new.outbox.frames → AsksStore failed o now.database new.database → failed now.database.keeper ≤ failed new.database.keeper
-      → IsLeft now.sessions.open_sessions new.sessions.open_sessions → new.tries ≡ now.tries + 1 → Few (number + 1) new.waiting → IsSettling failed m first from before new more (number + 1)
+      → IsLeft now.sessions.open_sessions new.sessions.open_sessions → new.tries ≡ now.tries + 1 → Few (number + 1) new.waiting → IsSettling failed m first (settling_at from before) (settling_at new more) (number + 1)
   one_more x o sent new more is reaches posts asks counts left tries few = record {
     made = x.made ++ made_by number (listed_of o);
     lists = ap (map attempt_view) is ∙ (map-append attempt_view listed (listed_by number o) ∙ (ap (λ (list : List machine.Attempt). list ++ map attempt_view (listed_by number o)) x.lists
@@ -147,7 +151,7 @@ module _ {K : Type 0} (failed : K → ℕ) (m first : ℕ) (from : Live K) (befo
     few = few;
   }
 
-  module _ (x : IsSettling failed m first from before now listed number) (w : Outstanding) (rest : List Outstanding) (next : now.waiting.untried ≡ w ∷ rest) where
+  module _ (x : IsSettling failed m first (settling_at from before) (settling_at now listed) number) (w : Outstanding) (rest : List Outstanding) (next : now.waiting.untried ≡ w ∷ rest) where
     here : Reaches (state_of from m) first x.made (state_of now m) x.sent number (w ∷ rest)
     here = subst (λ (ws : List Outstanding). Reaches (state_of from m) first x.made (state_of now m) x.sent number ws) next x.reaches
 
@@ -155,7 +159,7 @@ module _ {K : Type 0} (failed : K → ℕ) (m first : ℕ) (from : Live K) (befo
     one = omega (arith, ap (λ (ws : List Outstanding). length ws) next)
 
     -- one whose session was closed is not tried
-    pub skipped : has_serial w.session now.sessions.open_sessions ≡ false → IsSettling failed m first from before (record now { waiting = record now.waiting { untried = rest } }) listed number
+    pub skipped : has_serial w.session now.sessions.open_sessions ≡ false → IsSettling failed m first (settling_at from before) (settling_at (record now { waiting = record now.waiting { untried = rest } }) listed) number
     skipped away = record {
       made = x.made;
       lists = x.lists;
@@ -180,7 +184,7 @@ module _ {K : Type 0} (failed : K → ℕ) (m first : ℕ) (from : Live K) (befo
       next_one : (o : Option Outcome) → machine.is_kept (listed_of o) ≡ false → (sent : List Sent) (new : Live K) (more : List Attempt) → more ≡ listed ++ listed_by number o
           → tries_again (state_of now m) w (listed_of o) ≡ Some (record { state = state_of new m; sent = sent }) → new.waiting.untried ≡ rest
           → PostsSent sent now.outbox.frames new.outbox.frames → AsksStore failed o now.database new.database → failed now.database.keeper ≤ failed new.database.keeper
-          → IsLeft now.sessions.open_sessions new.sessions.open_sessions → new.tries ≡ now.tries + 1 → Few (number + 1) new.waiting → IsSettling failed m first from before new more (number + 1)
+          → IsLeft now.sessions.open_sessions new.sessions.open_sessions → new.tries ≡ now.tries + 1 → Few (number + 1) new.waiting → IsSettling failed m first (settling_at from before) (settling_at new more) (number + 1)
       next_one o not_kept sent new more is again untried posts asks counts left tries few =
           one_more x o sent new more is
           (subst (λ (ws : List Outstanding). Reaches (state_of from m) first (x.made ++ made_by number (listed_of o)) (state_of new m) (x.sent ++ sent) (number + 1) ws) (sym untried)
@@ -189,7 +193,7 @@ module _ {K : Type 0} (failed : K → ℕ) (m first : ℕ) (from : Live K) (befo
 
       -- one that is blocked again, which leaves the waiting frames as they are
       pub blocked : (outbox : Outbox) (timeout : Option ℕ) → outbox.queues ≡ now.outbox.queues → HasSameFrames now.outbox.frames outbox.frames → on ≡ Waits timeout
-          → IsSettling failed m first from before (record now { outbox = outbox; tries = now.tries + 1; waiting = record { untried = rest; outstanding = now.waiting.outstanding ++ record w { timeout = timeout } ∷ [] } }) listed (number + 1)
+          → IsSettling failed m first (settling_at from before) (settling_at (record now { outbox = outbox; tries = now.tries + 1; waiting = record { untried = rest; outstanding = now.waiting.outstanding ++ record w { timeout = timeout } ∷ [] } }) listed) (number + 1)
       blocked outbox timeout queues silent waits =
           next_one None refl [] (record now { outbox = outbox; tries = now.tries + 1; waiting = record { untried = rest; outstanding = now.waiting.outstanding ++ record w { timeout = timeout } ∷ [] } }) listed (sym (append-nil listed))
           (rw (waits, queues) refl) refl (posts_none now.outbox.frames outbox.frames silent) refl (omega arith) (still_all now.sessions.open_sessions) refl
@@ -207,7 +211,7 @@ module _ {K : Type 0} (failed : K → ℕ) (m first : ℕ) (from : Live K) (befo
             (length new.waiting.untried) (many new.waiting) (omega (arith, ap (λ (ws : List Outstanding). length ws) (after_untried w.session o mid new h after), one)) (omega (arith, one, after_few w.session o mid new after))
 
         -- what is tried again comes to what completes
-        completes_again : (o : Option Outcome) (c : IsCompleted (sessions_of now.watchers now.sessions.open_sessions) w.session w.id on now.database now.outbox.frames o db outbox.frames)
+        completes_again : (o : Option Outcome) (c : IsCompleted (request (sessions_of now.watchers now.sessions.open_sessions) w.session w.id on) (trial_state now.database now.outbox.frames) o (trial_state db outbox.frames))
             → tries_again (state_of now m) w (listed_of o) ≡ machine.attempt (state_of now m) w on (listed_of o)
             → tries_again (state_of now m) w (listed_of o) ≡ Some (record { state = with_db (state_of now m) db; sent = c.sent })
         completes_again o c is = is ∙ (ap (λ (t : TransactionOutcome). machine.attempt (state_of now m) w t (listed_of o)) c.is ∙ c.comes (state_of now m) refl)
@@ -218,15 +222,15 @@ module _ {K : Type 0} (failed : K → ℕ) (m first : ℕ) (from : Live K) (befo
 
         unkept : (o : Option Outcome) (new : Live K) (more : List Attempt) → more ≡ listed ++ listed_by number o → machine.is_kept (listed_of o) ≡ false → AfterTry w.session o mid new → new ≡ mid
             → tries_again (state_of now m) w (listed_of o) ≡ machine.attempt (state_of now m) w on (listed_of o)
-            → IsCompleted (sessions_of now.watchers now.sessions.open_sessions) w.session w.id on now.database now.outbox.frames o db outbox.frames
-            → AsksStore failed o now.database db → failed now.database.keeper ≤ failed db.keeper → IsSettling failed m first from before new more (number + 1)
+            → IsCompleted (request (sessions_of now.watchers now.sessions.open_sessions) w.session w.id on) (trial_state now.database now.outbox.frames) o (trial_state db outbox.frames)
+            → AsksStore failed o now.database db → failed now.database.keeper ≤ failed db.keeper → IsSettling failed m first (settling_at from before) (settling_at new more) (number + 1)
         unkept o new more is h after same tries c asks counts =
             let few = few_after o new after h in
             rw same (next_one o h c.sent mid more is (completes_again o c tries ∙ ap (λ (s : State). Some (record { state = s; sent = c.sent })) (sym state_is)) refl c.posts asks counts (still_all now.sessions.open_sessions) refl (rw same at few))
 
         pub done : (o : Option Outcome) (new : Live K) (more : List Attempt) → more ≡ listed ++ listed_by number o → AfterTry w.session o mid new
-            → IsTrial (sessions_of now.watchers now.sessions.open_sessions) w.session w.id on now.database now.outbox.frames (Done o) db outbox.frames
-            → AsksStore failed o now.database db → failed now.database.keeper ≤ failed db.keeper → IsSettling failed m first from before new more (number + 1)
+            → IsTrial (request (sessions_of now.watchers now.sessions.open_sessions) w.session w.id on) (trial_state now.database now.outbox.frames) (Done o) (trial_state db outbox.frames)
+            → AsksStore failed o now.database db → failed now.database.keeper ≤ failed db.keeper → IsSettling failed m first (settling_at from before) (settling_at new more) (number + 1)
         done (Some outcome.NoMemory) new more is c (same, silent) asks counts =
             let sent = (machine.closed (state_of now m) w.session).sent in
             let few = few_after (Some outcome.NoMemory) new c refl in
@@ -249,7 +253,7 @@ module _ {K : Type 0} (failed : K → ℕ) (m first : ℕ) (from : Live K) (befo
             let few = few_again number (first + first + (length from.waiting.outstanding + length from.waiting.outstanding * length from.waiting.outstanding)) (length now.waiting.untried) (many now.waiting) x.few (many (tried_again mid).waiting) (omega (arith, one)) (omega (arith, one, fewer)) in
             omega (arith, few)))
           where
-            again : (c : IsCompleted (sessions_of now.watchers now.sessions.open_sessions) w.session w.id on now.database now.outbox.frames (Some outcome.Committed) db outbox.frames)
+            again : (c : IsCompleted (request (sessions_of now.watchers now.sessions.open_sessions) w.session w.id on) (trial_state now.database now.outbox.frames) (Some outcome.Committed) (trial_state db outbox.frames))
                 → Reaches (state_of from m) first (x.made ++ made_by number (listed_of (Some outcome.Committed))) (state_of (tried_again mid) m) (x.sent ++ c.sent) (number + 1) (tried_again mid).waiting.untried
             again c =
                 let reached = reaches_again (state_of from m) first x.made (state_of now m) x.sent number w rest here (Some machine.Committed) (record { state = with_db (state_of now m) db; sent = c.sent }) there (completes_again (Some outcome.Committed) c refl) refl in
@@ -259,7 +263,7 @@ module _ {K : Type 0} (failed : K → ℕ) (m first : ℕ) (from : Live K) (befo
 
 -- all waiting transactions are to be tried
 pub begun : {K : Type 0} (failed : K → ℕ) (m first : ℕ) (old : Live K) (listed : List Attempt) → old.waiting.untried ≡ []
-    → IsSettling failed m first old listed (record old { waiting = record { untried = old.waiting.outstanding; outstanding = old.waiting.untried } }) listed first
+    → IsSettling failed m first (settling_at old listed) (settling_at (record old { waiting = record { untried = old.waiting.outstanding; outstanding = old.waiting.untried } }) listed) first
 begun failed m first old listed none = rw none (record {
   made = [];
   lists = sym (append-nil (map attempt_view listed));
@@ -273,8 +277,8 @@ begun failed m first old listed none = rw none (record {
 })
 
 -- none is left to be tried
-pub ended : {K : Type 0} (failed : K → ℕ) (m first : ℕ) (old : Live K) (before : List Attempt) (new : Live K) (listed : List Attempt) (number : ℕ) → IsSettling failed m first old before new listed number → new.waiting.untried ≡ []
-    → Settles failed m first old before new listed
+pub ended : {K : Type 0} (failed : K → ℕ) (m first : ℕ) (old : Live K) (before : List Attempt) (new : Live K) (listed : List Attempt) (number : ℕ) → IsSettling failed m first (settling_at old before) (settling_at new listed) number → new.waiting.untried ≡ []
+    → Settles failed m first (settling_at old before) (settling_at new listed)
 ended failed m first old before new listed number x none = record {
   made = x.made;
   lists = x.lists;

@@ -28,7 +28,7 @@ use Rattle.ov_history.specs.Entries.{attempt_view, entry_view, is_failure}
 use Rattle.ov_core.specs.Sessions.{ClosesSession, OpensLive}
 use Rattle.ov_core.specs.States.{state_of}
 use Rattle.ov_core.proofs.Trying.{counts_few}
-use Rattle.ov_core.specs.Settling.{ComesTo}
+use Rattle.ov_core.specs.Settling.{ComesTo, choice_of}
 use Rattle.ov_core.specs.Following.{CoreState, CountsWork, EntersEntry, Follows, none_given}
 use Rattle.ov_history.specs.History.{newest, HasHistory}
 use Rattle.ov_core.specs.Stepping.{closing, AsksKeeper, Closes, HasSameKeeper, IsEntered, has_outcome}
@@ -142,7 +142,7 @@ module _ {K : Type 0} (failed : K → ℕ) (n : ℕ) (cause : machine.Cause) (ol
   has_closed was is x low there added same has = has_more (state_of old before) (state_of new m) was is (closing m n cause) sent (is_closing_of low there) refl (entered_after was is x _ added same) has
 
 -- what an event came to, as it was entered
-module _ {K : Type 0} (failed : K → ℕ) (event : machine.Event) (old new : Live K) (before m : ℕ) (draws : List Uuid) (attempts : List Attempt) (comes : ComesTo failed m event old draws attempts new) where
+module _ {K : Type 0} (failed : K → ℕ) (event : machine.Event) (old new : Live K) (before m : ℕ) (draws : List Uuid) (attempts : List Attempt) (comes : ComesTo failed (choice_of m draws attempts) event old new) where
   abbrev pub entered : machine.Entry
   entered = entry_of event (record { moment = m; draws = draws; outcomes = map attempt_view attempts })
 
@@ -167,7 +167,7 @@ module _ {K : Type 0} (failed : K → ℕ) (event : machine.Event) (old new : Li
 
 -- a message that was taken: its session is open afterwards, or not
 pub took : {K D : Type 0} (failed : K → ℕ) (draws : D → Uuid → D → Type 0) (n : ℕ) (message : Message) (old new : Live K) (before m : ℕ) (drawn : List Uuid) (attempts : List Attempt) (was is : List Entry) (x : Entry) (source after : D) (b : Bool)
-    → ComesTo failed m (machine.Take n message) old drawn attempts new → before ≤ m → is ≡ newest (was ++ x ∷ []) → entry_view x ≡ entry_of (machine.Take n message) (record { moment = m; draws = drawn; outcomes = map attempt_view attempts })
+    → ComesTo failed (choice_of m drawn attempts) (machine.Take n message) old new → before ≤ m → is ≡ newest (was ++ x ∷ []) → entry_view x ≡ entry_of (machine.Take n message) (record { moment = m; draws = drawn; outcomes = map attempt_view attempts })
     → DrawsFrom draws source drawn after → list_all is_uuid drawn ≡ true → machine.is_open (state_of new m) n ≡ b
     → IsEntered draws m (machine.Take n message) (core_of failed old before was source) (cond b answer.Done answer.Closed) (core_of failed new m is after)
 took failed draws n message old new before m drawn attempts was is x source after true comes low added same from uuids there = record {
@@ -197,7 +197,7 @@ took failed draws n message old new before m drawn attempts was is x source afte
 
 -- a Tick
 pub ticked : {K D : Type 0} (failed : K → ℕ) (draws : D → Uuid → D → Type 0) (old new : Live K) (before m : ℕ) (attempts : List Attempt) (was is : List Entry) (x : Entry) (source : D)
-    → ComesTo failed m machine.Tick old [] attempts new → before ≤ m → is ≡ newest (was ++ x ∷ []) → entry_view x ≡ entry_of machine.Tick (record { moment = m; draws = []; outcomes = map attempt_view attempts })
+    → ComesTo failed (choice_of m [] attempts) machine.Tick old new → before ≤ m → is ≡ newest (was ++ x ∷ []) → entry_view x ≡ entry_of machine.Tick (record { moment = m; draws = []; outcomes = map attempt_view attempts })
     → IsEntered draws m machine.Tick (core_of failed old before was source) answer.Done (core_of failed new m is source)
 ticked failed draws old new before m attempts was is x source comes low added same = record {
   entry = entered failed machine.Tick old new before m [] attempts comes;

@@ -19,14 +19,14 @@ use Rattle.ov_history.specs.declared.event.Outcome.{Outcome}
 use Rattle.ov_history.specs.declared.event.Outcome.TheVariants as outcome
 use Rattle.ov_core.specs.declared.live.Live.{Live}
 use Rattle.ov_history.specs.Entries.{attempt_view, listed_by, is_kept, is_closing}
-use Rattle.ov_core.specs.Handling.{AsksStore, Stays, WorkIsDone, WorksWith, listed_of}
+use Rattle.ov_core.specs.Handling.{AsksStore, Stays, WorkIsDone, WorksWith, listed_of, work_at}
 use Rattle.ov_core.specs.Sessions.{ClosesSession}
 use Rattle.ov_core.specs.Counting.{RisesBy, CountsTries}
-use Rattle.ov_core.specs.Settling.{ComesTo, Settles}
+use Rattle.ov_core.specs.Settling.{ComesTo, Settles, choice_of}
 use Rattle.ov_core.specs.States.{state_of}
 use Rattle.ov_outbox.proofs.Answered.{posts_then}
 use Rattle.ov_core.proofs.Asking.{asks_one, asks_then}
-use Rattle.ov_core.proofs.Settlings.{closed_state}
+use Rattle.ov_core.proofs.Settlings.{closed_state, settling_at}
 
 -- what is listed of attempt 1, and no more
 listed_alone : (o : Option Outcome) → machine.listed 1 (map attempt_view (listed_by 1 o)) ≡ record { outcome = listed_of o; others = [] }
@@ -41,7 +41,7 @@ not_kept (Some outcome.Exhausted) h = refl
 not_kept (Some outcome.Failed) h = refl
 
 -- if no allocation failed, the work was done
-done_where : {K : Type 0} (m n : ℕ) (w : Work) (draws : List Uuid) (old : Live K) (o : Option Outcome) (new : Live K) → is_closing o ≡ false → WorksWith m n w draws old o new → WorkIsDone m n w draws old o new
+done_where : {K : Type 0} (m n : ℕ) (w : Work) (draws : List Uuid) (old : Live K) (o : Option Outcome) (new : Live K) → is_closing o ≡ false → WorksWith (work_at m n w draws) old o new → WorkIsDone (work_at m n w draws) old o new
 done_where m n w draws old None new h done = done
 done_where m n w draws old (Some outcome.NoMemory) new h done = absurd (false≢true (sym h))
 done_where m n w draws old (Some outcome.Committed) new h done = done
@@ -63,7 +63,7 @@ kept_is (Some outcome.Exhausted) h = absurd (false≢true h)
 kept_is (Some outcome.Failed) h = absurd (false≢true h)
 
 -- if it was kept, the same transactions wait
-pub kept_waits : {K : Type 0} (m n : ℕ) (w : Work) (draws : List Uuid) (old : Live K) (o : Option Outcome) (new : Live K) → is_kept o ≡ true → WorksWith m n w draws old o new → (new.waiting.untried ≡ old.waiting.untried) × (new.waiting ≡ old.waiting)
+pub kept_waits : {K : Type 0} (m n : ℕ) (w : Work) (draws : List Uuid) (old : Live K) (o : Option Outcome) (new : Live K) → is_kept o ≡ true → WorksWith (work_at m n w draws) old o new → (new.waiting.untried ≡ old.waiting.untried) × (new.waiting ≡ old.waiting)
 kept_waits m n w draws old None new h done = absurd (false≢true h)
 kept_waits m n w draws old (Some outcome.NoMemory) new h done = absurd (false≢true h)
 kept_waits m n w draws old (Some outcome.Committed) new h done = (done.untried, done.kept refl)
@@ -106,8 +106,8 @@ module _ {K : Type 0} (failed : K → ℕ) (m n : ℕ) (message : Message) (draw
   counted (Some outcome.Failed) same rises = omega (arith, rises, unkept_settles_none (state_of old m) (choice (listed_by 1 (Some outcome.Failed))) n message refl)
 
   -- an allocation failed, and the session is closed
-  pub take_closes : (o : Option Outcome) (new : Live K) (attempts : List Attempt) → is_closing o ≡ true → attempts ≡ listed_by 1 o → ClosesSession n mid new → WorksWith m n work draws old o mid
-      → AsksStore failed o old.database mid.database → failed old.database.keeper ≤ failed mid.database.keeper → RisesBy (listed_of o) (own_attempts work) old.tries mid.tries → ComesTo failed m (machine.Take n message) old draws attempts new
+  pub take_closes : (o : Option Outcome) (new : Live K) (attempts : List Attempt) → is_closing o ≡ true → attempts ≡ listed_by 1 o → ClosesSession n mid new → WorksWith (work_at m n work draws) old o mid
+      → AsksStore failed o old.database mid.database → failed old.database.keeper ≤ failed mid.database.keeper → RisesBy (listed_of o) (own_attempts work) old.tries mid.tries → ComesTo failed (choice_of m draws attempts) (machine.Take n message) old new
   take_closes o new attempts closing listed closes done asks counts tries =
       let no_memory = closing_is o closing in
       let (few, stays) = rw no_memory at done in
@@ -126,8 +126,8 @@ module _ {K : Type 0} (failed : K → ℕ) (m n : ℕ) (message : Message) (draw
       })
 
   -- it was done, and nothing was kept
-  pub take_ends : (o : Option Outcome) (attempts : List Attempt) → is_closing o ≡ false → is_kept o ≡ false → attempts ≡ listed_by 1 o → WorksWith m n work draws old o mid
-      → AsksStore failed o old.database mid.database → failed old.database.keeper ≤ failed mid.database.keeper → RisesBy (listed_of o) (own_attempts work) old.tries mid.tries → ComesTo failed m (machine.Take n message) old draws attempts mid
+  pub take_ends : (o : Option Outcome) (attempts : List Attempt) → is_closing o ≡ false → is_kept o ≡ false → attempts ≡ listed_by 1 o → WorksWith (work_at m n work draws) old o mid
+      → AsksStore failed o old.database mid.database → failed old.database.keeper ≤ failed mid.database.keeper → RisesBy (listed_of o) (own_attempts work) old.tries mid.tries → ComesTo failed (choice_of m draws attempts) (machine.Take n message) old mid
   take_ends o attempts open' same listed did asks counts tries =
       let done = done_where m n work draws old o mid open' did in
       rw listed (record {
@@ -141,9 +141,9 @@ module _ {K : Type 0} (failed : K → ℕ) (m n : ℕ) (message : Message) (draw
       })
 
   -- it was kept, and the waiting transactions were settled
-  pub take_settles : (o : Option Outcome) (new : Live K) (before attempts : List Attempt) → is_closing o ≡ false → is_kept o ≡ true → before ≡ listed_by 1 o → WorksWith m n work draws old o mid
+  pub take_settles : (o : Option Outcome) (new : Live K) (before attempts : List Attempt) → is_closing o ≡ false → is_kept o ≡ true → before ≡ listed_by 1 o → WorksWith (work_at m n work draws) old o mid
       → AsksStore failed o old.database mid.database → failed old.database.keeper ≤ failed mid.database.keeper → RisesBy (listed_of o) (own_attempts work) old.tries mid.tries
-      → Settles failed m 2 mid before new attempts → ComesTo failed m (machine.Take n message) old draws attempts new
+      → Settles failed m 2 (settling_at mid before) (settling_at new attempts) → ComesTo failed (choice_of m draws attempts) (machine.Take n message) old new
   take_settles o new before attempts open' kept listed did asks counts tries s =
       let is = kept_is o kept in
       let done = done_where m n work draws old o mid open' did in
@@ -166,7 +166,7 @@ module _ {K : Type 0} (failed : K → ℕ) (m n : ℕ) (message : Message) (draw
       }
 
 -- the waiting transactions were settled as time passed
-pub tick_settles : {K : Type 0} (failed : K → ℕ) (m : ℕ) (old new : Live K) (before attempts : List Attempt) → before ≡ [] → Settles failed m 1 old before new attempts → ComesTo failed m machine.Tick old [] attempts new
+pub tick_settles : {K : Type 0} (failed : K → ℕ) (m : ℕ) (old new : Live K) (before attempts : List Attempt) → before ≡ [] → Settles failed m 1 (settling_at old before) (settling_at new attempts) → ComesTo failed (choice_of m [] attempts) machine.Tick old new
 tick_settles failed m old new before attempts none s =
     let all : map attempt_view attempts ≡ s.made = s.lists ∙ ap (λ (list : List Attempt). map attempt_view list ++ s.made) none in
     record {

@@ -35,7 +35,7 @@ use Rattle.ov_history.specs.declared.event.Outcome.TheVariants as outcome
 use Rattle.ov_core.specs.declared.live.Live.{Live}
 use Rattle.ov_core.specs.Leaving.{LeavesItsOwn}
 use Rattle.ov_core.specs.Preparing.{outcome_after}
-use Rattle.ov_core.specs.Handling.{AsksStore, PostsIfRoom, with_db, listed_of, IsCompleted, IsTrial, Stays, WorkIsDone, WorksWith, HasSameRest, WaitsIfRoom, CancelsIfRoom}
+use Rattle.ov_core.specs.Handling.{AsksStore, PostsIfRoom, with_db, listed_of, TrialRequest, TrialState, IsCompleted, IsTrial, Stays, WorkIsDone, WorksWith, work_at, HasSameRest, WaitsIfRoom, CancelsIfRoom}
 use Rattle.ov_core.specs.States.{state_of, sessions_of}
 use Rattle.ov_core.proofs.Watching.{sessions-same, sessions-watch}
 
@@ -45,10 +45,18 @@ posts_none old new same other = same other ∙ sym (append-nil (waiting_for othe
 
 -- ---- a try
 
+-- what a try is asked
+abbrev pub request : List machine.Session → ℕ → Data → TransactionOutcome → TrialRequest
+request sessions session id on = record { sessions = sessions; session = session; id = id; outcome = on }
+
+-- what it may change
+abbrev pub trial_state : {K : Type 0} → KeptDatabase K → WaitingFrames → TrialState K
+trial_state database frames = record { database = database; frames = frames }
+
 -- a transaction for which the store is not asked
 module _ {K : Type 0} (ms : List machine.Session) (n : ℕ) (id : Data) (made : Items) (database : Database) (sent : List Sent) (old : KeptDatabase K) (waited waits : WaitingFrames) where
   at_once : (o : Option Outcome) → ((s : State) → completes (with_db s old) n id made database None ≡ Some (record { state = with_db s old; sent = sent })) → PostsIfRoom sent waited o waits
-      → IsTrial ms n id (Completes made database) old waited (Done o) old waits
+      → IsTrial (request ms n id (Completes made database)) (trial_state old waited) (Done o) (trial_state old waits)
   at_once None h posts = record { results = made; database = database; is = refl; sent = sent; comes = λ s is. h s; posts = posts }
   at_once (Some outcome.NoMemory) h silent = (refl, silent)
   at_once (Some outcome.Committed) h never = absurd never
@@ -56,7 +64,7 @@ module _ {K : Type 0} (ms : List machine.Session) (n : ℕ) (id : Data) (made : 
   at_once (Some outcome.Failed) h never = absurd never
 
 pub answers : {K : Type 0} (ms : List machine.Session) (n : ℕ) (id : Data) (on : TransactionOutcome) (results : Items) (old : KeptDatabase K) (o : Option Outcome) (waited waits : WaitingFrames)
-    → IsAnswer on old results → PostsIfRoom (results_to n id results) waited o waits → IsTrial ms n id on old waited (Done o) old waits
+    → IsAnswer on old results → PostsIfRoom (results_to n id results) waited o waits → IsTrial (request ms n id on) (trial_state old waited) (Done o) (trial_state old waits)
 answers ms n id (Completes made database) results old o waited waits (inl (same, made_is)) posts = at_once ms n id made database (results_to n id results) old waited waits o (λ s. rw (same, made_is) refl) posts
 answers ms n id (Completes made database) results old o waited waits (inr (other, sealed, made_is)) posts = at_once ms n id made database (results_to n id results) old waited waits o (λ s. rw (other, sealed, made_is) refl) posts
 answers ms n id (Waits timeout) results old o waited waits never posts = absurd never
@@ -79,11 +87,11 @@ sent_after store.Failed ms n id results old delta = results_to n id (failed_resu
 module _ {K : Type 0} (ms : List machine.Session) (n : ℕ) (id : Data) (on : TransactionOutcome) (results : Items) (old new : KeptDatabase K) (delta : Delta) (waited waits : WaitingFrames)
     (is : on ≡ Completes results (applied delta old.committed)) (other : same_database old.committed (applied delta old.committed) ≡ false) (unsealed : old.sealed ≡ None) where
   completed : (o : Option Outcome) (sent : List Sent) → ((s : State) → s.sessions ≡ ms → completes (with_db s old) n id results (applied delta old.committed) (listed_of o) ≡ Some (record { state = with_db s new; sent = sent })) → PostsSent sent waited waits
-      → IsCompleted ms n id on old waited o new waits
+      → IsCompleted (request ms n id on) (trial_state old waited) o (trial_state new waits)
   completed o sent comes posts = record { results = results; database = applied delta old.committed; is = is; sent = sent; comes = comes; posts = posts }
 
   pub stored : (answer : StoreAnswer) → Commits delta old answer new → PostsSent (sent_after answer ms n id results old delta) waited waits
-      → IsTrial ms n id on old waited (Done (Some (outcome_after answer))) new waits
+      → IsTrial (request ms n id on) (trial_state old waited) (Done (Some (outcome_after answer))) (trial_state new waits)
   stored store.Kept made posts =
       let schema : new.schema ≡ old.schema = ap (λ (k : KeptDatabase K). k.schema) made in
       let database : new.committed ≡ applied delta old.committed = ap (λ (k : KeptDatabase K). k.committed) made in
@@ -113,7 +121,7 @@ stays_same : {K : Type 0} (n : ℕ) (old : Live K) → Stays n old old
 stays_same n old = record { same = refl; watching = λ other apart. refl; queues = refl; frames = λ other. refl }
 
 -- out of memory before anything was drawn
-pub nothing_drawn : {K : Type 0} (m n : ℕ) (w : Work) (old : Live K) (draws : List Uuid) → draws ≡ [] → WorksWith m n w draws old (Some outcome.NoMemory) old
+pub nothing_drawn : {K : Type 0} (m n : ℕ) (w : Work) (old : Live K) (draws : List Uuid) → draws ≡ [] → WorksWith (work_at m n w draws) old (Some outcome.NoMemory) old
 nothing_drawn m n w old draws none = (omega (arith, ap (λ (d : List Uuid). length d) none), stays_same n old)
 
 -- a transaction that was tried, and these identifiers drawn for it
@@ -128,14 +136,14 @@ module _ {K : Type 0} (m n : ℕ) (id : Data) (draws : List Uuid) (operations : 
     same_queues : with_db (state_of old m) db ≡ state_of new m
     same_queues = rw queues refl
 
-    over : {o : Option Outcome} (c : IsCompleted (sessions_of old.watchers old.sessions.open_sessions) n id on old.database old.outbox.frames o db outbox.frames)
+    over : {o : Option Outcome} (c : IsCompleted (request (sessions_of old.watchers old.sessions.open_sessions) n id on) (trial_state old.database old.outbox.frames) o (trial_state db outbox.frames))
         → machine.when (eqb (length draws) (draws_wanted operations)) (does (state_of old m) n draws (listed_of o) (Transact id operations)) ≡ Some (record { state = with_db (state_of old m) db; sent = c.sent })
     over {o} c = rw (eq-eqb (length draws) (draws_wanted operations) many, c.is) (c.comes (state_of old m) refl)
 
     tried_work : (o : Option Outcome)
         → works (state_of old m) n draws (listed_of o) (Transact id operations) ≡ machine.when (eqb (length draws) (draws_wanted operations)) (does (state_of old m) n draws (listed_of o) (Transact id operations))
-        → IsCompleted (sessions_of old.watchers old.sessions.open_sessions) n id on old.database old.outbox.frames o db outbox.frames
-        → WorkIsDone m n (Transact id operations) draws old o new
+        → IsCompleted (request (sessions_of old.watchers old.sessions.open_sessions) n id on) (trial_state old.database old.outbox.frames) o (trial_state db outbox.frames)
+        → WorkIsDone (work_at m n (Transact id operations) draws) old o new
     tried_work o is c = record {
       sent = c.sent;
       works = is ∙ (over c ∙ ap (λ (s : State). Some (record { state = s; sent = c.sent })) same_queues);
@@ -145,7 +153,7 @@ module _ {K : Type 0} (m n : ℕ) (id : Data) (draws : List Uuid) (operations : 
       kept = λ h. refl;
     }
 
-    pub trial_works : (o : Option Outcome) → IsTrial (sessions_of old.watchers old.sessions.open_sessions) n id on old.database old.outbox.frames (Done o) db outbox.frames → WorksWith m n (Transact id operations) draws old o new
+    pub trial_works : (o : Option Outcome) → IsTrial (request (sessions_of old.watchers old.sessions.open_sessions) n id on) (trial_state old.database old.outbox.frames) (Done o) (trial_state db outbox.frames) → WorksWith (work_at m n (Transact id operations) draws) old o new
     trial_works (Some outcome.NoMemory) (same, silent) = (
       omega (arith, many),
       record {
@@ -162,7 +170,7 @@ module _ {K : Type 0} (m n : ℕ) (id : Data) (draws : List Uuid) (operations : 
 
   -- one that is blocked, which leaves the waiting frames as they are
   pub wait_works : (outbox : Outbox) (tries : ℕ) (timeout : Option ℕ) (o : Option Outcome) (new : Live K) → outbox.queues ≡ old.outbox.queues → HasSameFrames old.outbox.frames outbox.frames → on ≡ Waits timeout
-      → WaitsIfRoom (machine.arrived (state_of old m) n id draws operations) timeout (record old { outbox = outbox; tries = tries }) o new → WorksWith m n (Transact id operations) draws old o new
+      → WaitsIfRoom (machine.arrived (state_of old m) n id draws operations) timeout (record old { outbox = outbox; tries = tries }) o new → WorksWith (work_at m n (Transact id operations) draws) old o new
   wait_works outbox tries timeout None new queues silent is waits = rw waits (record {
     sent = [];
     works = rw (eq-eqb (length draws) (draws_wanted operations) many, is, queues) refl;
@@ -178,7 +186,7 @@ module _ {K : Type 0} (m n : ℕ) (id : Data) (draws : List Uuid) (operations : 
 
 -- a waiting transaction is canceled
 pub cancel_works : {K : Type 0} (m n : ℕ) (id : Data) (text : List ℕ) (old : Live K) (o : Option Outcome) (new : Live K) → text ≡ compact_text id → CancelsIfRoom n id text old o new
-    → WorksWith m n (Cancels id) [] old o new
+    → WorksWith (work_at m n (Cancels id) []) old o new
 cancel_works m n id text old None new same (posts, queues, is) = record {
   sent = to_session n (failure_tree id (codes "canceled") ∷ []);
   works = rw (is, queues, same) refl;
@@ -261,7 +269,7 @@ answer_of s n (Watches id result monitors) bytes is = absurd is
 
 -- the work that is answered at once
 pub answered_works : {K : Type 0} (m n : ℕ) (trees : List Data) (old : Live K) (o : Option Outcome) (new : Live K) → new ≡ record old { outbox = new.outbox } → new.outbox.queues ≡ old.outbox.queues → PostsIfRoom (to_session n trees) old.outbox.frames o new.outbox.frames
-    → WorksWith m n (Answers trees) [] old o new
+    → WorksWith (work_at m n (Answers trees) []) old o new
 answered_works {K} m n trees old None new is queues posts = record {
   sent = to_session n trees;
   works = rw (is, queues) refl;
@@ -287,7 +295,7 @@ same_state : {K : Type 0} (m : ℕ) (old mid : Live K) → SameLive old mid → 
 same_state m old mid same = rw (same.same, same.queues, sessions-same old.watchers mid.watchers same.watching old.sessions.open_sessions) refl
 
 -- work that is done then is done from before
-done_over : {K : Type 0} (m n : ℕ) (w : Work) (draws : List Uuid) (old mid : Live K) (o : Option Outcome) (new : Live K) → SameLive old mid → WorkIsDone m n w draws mid o new → WorkIsDone m n w draws old o new
+done_over : {K : Type 0} (m n : ℕ) (w : Work) (draws : List Uuid) (old mid : Live K) (o : Option Outcome) (new : Live K) → SameLive old mid → WorkIsDone (work_at m n w draws) mid o new → WorkIsDone (work_at m n w draws) old o new
 done_over {K} m n w draws old mid o new same done = record {
   sent = done.sent;
   works = ap (λ (s : State). works s n draws (listed_of o) w) (sym (same_state m old mid same)) ∙ done.works;
@@ -297,7 +305,7 @@ done_over {K} m n w draws old mid o new same done = record {
   kept = λ h. done.kept h ∙ ap (λ (l : Live K). l.waiting) same.same;
 }
 
-pub works_over : {K : Type 0} (m n : ℕ) (w : Work) (draws : List Uuid) (old mid : Live K) (o : Option Outcome) (new : Live K) → SameLive old mid → WorksWith m n w draws mid o new → WorksWith m n w draws old o new
+pub works_over : {K : Type 0} (m n : ℕ) (w : Work) (draws : List Uuid) (old mid : Live K) (o : Option Outcome) (new : Live K) → SameLive old mid → WorksWith (work_at m n w draws) mid o new → WorksWith (work_at m n w draws) old o new
 works_over m n w draws old mid None new same done = done_over m n w draws old mid None new same done
 works_over {K} m n w draws old mid (Some outcome.NoMemory) new same (few, stays) = (
   few,
@@ -313,7 +321,7 @@ works_over m n w draws old mid (Some outcome.Exhausted) new same done = done_ove
 works_over m n w draws old mid (Some outcome.Failed) new same done = done_over m n w draws old mid (Some outcome.Failed) new same done
 
 -- an allocation failed, and all is as before
-pub same_works : {K : Type 0} (m n : ℕ) (w : Work) (old new : Live K) → SameLive old new → WorksWith m n w [] old (Some outcome.NoMemory) new
+pub same_works : {K : Type 0} (m n : ℕ) (w : Work) (old new : Live K) → SameLive old new → WorksWith (work_at m n w []) old (Some outcome.NoMemory) new
 same_works {K} m n w old new same = (
   omega arith,
   record {
@@ -327,7 +335,7 @@ same_works {K} m n w old new same = (
 -- what is asked of a lock, if it is not refused
 pub lock_works : {K : Type 0} (m n : ℕ) (call : LockCall) (id : Data) (name : List ℕ) (old : Live K) (outbox : Outbox) → call_refusal call name n old.outbox.queues ≡ None → outbox.queues ≡ after_call call name n old.outbox.queues
     → PostsSent (to_session n (reply_tree id (call_result call name old.outbox.queues) ∷ []) ++ told (option_to_list (told_of_call call name n old.outbox.queues))) old.outbox.frames outbox.frames
-    → WorksWith m n (unless_refused id (call_refusal call name n old.outbox.queues) (Locks call id name)) [] old None (record old { outbox = outbox })
+    → WorksWith (work_at m n (unless_refused id (call_refusal call name n old.outbox.queues) (Locks call id name)) []) old None (record old { outbox = outbox })
 lock_works m n call id name old outbox free queues posts = rw free (record {
   sent = to_session n (reply_tree id (call_result call name old.outbox.queues) ∷ []) ++ told (option_to_list (told_of_call call name n old.outbox.queues));
   works = rw queues refl;
@@ -340,7 +348,7 @@ lock_works m n call id name old outbox free queues posts = rw free (record {
 -- the session has these monitors afterwards, and is answered; or an allocation failed
 pub watch_works : {K : Type 0} (m n : ℕ) (id result : Data) (monitors : List Monitor) (old : Live K) (watchers : Watching) (o : Option Outcome) (new : Live K) → WatchesWith n monitors old.watchers watchers
     → new ≡ record old { watchers = watchers; outbox = new.outbox } → new.outbox.queues ≡ old.outbox.queues → PostsIfRoom (to_session n (reply_tree id result ∷ [])) old.outbox.frames o new.outbox.frames
-    → WorksWith m n (Watches id result monitors) [] old o new
+    → WorksWith (work_at m n (Watches id result monitors) []) old o new
 watch_works {K} m n id result monitors old watchers None new watches is queues posts = record {
   sent = to_session n (reply_tree id result ∷ []);
   works = rw (is, queues, sessions-watch n monitors old.watchers watchers watches old.sessions.open_sessions) refl;

@@ -62,22 +62,34 @@ listed_of o = option_map outcome_view o
 abbrev pub with_db : {K : Type 0} → State → KeptDatabase K → State
 with_db s kept = record s { schema = kept.schema; database = kept.committed; sealed = kept.sealed }
 
--- A transaction with this outcome on the database completes: in every state over the database with these sessions, the
--- machine reaches the state over the database as it is now, and what it sends waits after the frames that waited.
-pub record IsCompleted {K : Type 0} (sessions : List Session) (session : ℕ) (id : Data) (on : TransactionOutcome) (old : KeptDatabase K) (waited : WaitingFrames) (o : Option Outcome) (new : KeptDatabase K) (waits : WaitingFrames) : Type 0 where
+-- the transaction that is tried: the open sessions with their monitors, its own session, the id to reply under, and its outcome
+-- on the database
+pub record TrialRequest : Type 0 where
+  pub sessions : List Session
+  pub session : ℕ
+  pub id : Data
+  pub outcome : TransactionOutcome
+
+-- what a try may change: the database, and the waiting frames
+pub record TrialState (K : Type 0) : Type 0 where
+  pub database : KeptDatabase K
+  pub frames : WaitingFrames
+
+-- The transaction completes: in every state over the database with these sessions, the machine reaches the state over the
+-- database as it is now, and what it sends waits after the frames that waited.
+pub record IsCompleted {K : Type 0} (asked : TrialRequest) (old : TrialState K) (o : Option Outcome) (new : TrialState K) : Type 0 where
   pub results : Items
   pub database : Database
-  pub is : on ≡ Completes results database
+  pub is : asked.outcome ≡ Completes results database
   pub sent : List Sent
-  pub comes : (s : State) → s.sessions ≡ sessions → completes (with_db s old) session id results database (listed_of o) ≡ Some (record { state = with_db s new; sent = sent })
-  pub posts : PostsSent sent waited waits
+  pub comes : (s : State) → s.sessions ≡ asked.sessions → completes (with_db s old.database) asked.session asked.id results database (listed_of o) ≡ Some (record { state = with_db s new.database; sent = sent })
+  pub posts : PostsSent sent old.frames new.frames
 
--- A try of a transaction with this outcome on the database: it completes; or it is blocked, or an allocation failed, and
--- nothing is changed.
-abbrev pub IsTrial : {K : Type 0} → List Session → ℕ → Data → TransactionOutcome → KeptDatabase K → WaitingFrames → Trial → KeptDatabase K → WaitingFrames → Type 0
-IsTrial sessions session id on old waited (Done (Some outcome.NoMemory)) new waits = (new ≡ old) × HasSameFrames waited waits
-IsTrial sessions session id on old waited (Done o) new waits = IsCompleted sessions session id on old waited o new waits
-IsTrial sessions session id on old waited (Blocked timeout) new waits = (on ≡ Waits timeout) × (new ≡ old) × HasSameFrames waited waits
+-- A try of a transaction: it completes; or it is blocked, or an allocation failed, and nothing is changed.
+abbrev pub IsTrial : {K : Type 0} → TrialRequest → TrialState K → Trial → TrialState K → Type 0
+IsTrial asked old (Done (Some outcome.NoMemory)) new = (new.database ≡ old.database) × HasSameFrames old.frames new.frames
+IsTrial asked old (Done o) new = IsCompleted asked old o new
+IsTrial asked old (Blocked timeout) new = (asked.outcome ≡ Waits timeout) × (new.database ≡ old.database) × HasSameFrames old.frames new.frames
 
 -- what is listed of the try
 abbrev pub outcome_in : Trial → Option Outcome
@@ -98,24 +110,35 @@ pub record Stays {K : Type 0} (session : ℕ) (old new : Live K) : Type 0 where
   pub queues : new.outbox.queues ≡ old.outbox.queues
   pub frames : HasSameFrames old.outbox.frames new.outbox.frames
 
--- The work was done, at the moment, as the machine does it, and what it sends waits after the frames that waited. If the
--- store kept a change, the same transactions wait.
-pub record WorkIsDone {K : Type 0} (moment session : ℕ) (work : Work) (draws : List Uuid) (old : Live K) (o : Option Outcome) (new : Live K) : Type 0 where
+-- what a message of a session asks for, at the moment, and the identifiers that were drawn for it
+pub record WorkRequest : Type 0 where
+  pub moment : ℕ
+  pub session : ℕ
+  pub work : Work
+  pub draws : List Uuid
+
+-- the work at the moment, for the session, with these identifiers drawn
+abbrev pub work_at : ℕ → ℕ → Work → List Uuid → WorkRequest
+work_at moment session work draws = record { moment = moment; session = session; work = work; draws = draws }
+
+-- The work was done as the machine does it, and what it sends waits after the frames that waited. If the store kept a change,
+-- the same transactions wait.
+pub record WorkIsDone {K : Type 0} (asked : WorkRequest) (old : Live K) (o : Option Outcome) (new : Live K) : Type 0 where
   pub sent : List Sent
-  pub works : works (state_of old moment) session draws (listed_of o) work ≡ Some (record { state = state_of new moment; sent = sent })
+  pub works : works (state_of old asked.moment) asked.session asked.draws (listed_of o) asked.work ≡ Some (record { state = state_of new asked.moment; sent = sent })
   pub posts : PostsSent sent old.outbox.frames new.outbox.frames
   pub sessions : new.sessions ≡ old.sessions
   pub untried : new.waiting.untried ≡ old.waiting.untried
   pub kept : is_kept o ≡ true → new.waiting ≡ old.waiting
 
 -- The work was done; or an allocation failed, no more was drawn than the work needs, and nothing else is changed.
-abbrev pub WorksWith : {K : Type 0} → ℕ → ℕ → Work → List Uuid → Live K → Option Outcome → Live K → Type 0
-WorksWith moment session work draws old (Some outcome.NoMemory) new = (length draws ≤ draws_for work) × Stays session old new
-WorksWith moment session work draws old o new = WorkIsDone moment session work draws old o new
+abbrev pub WorksWith : {K : Type 0} → WorkRequest → Live K → Option Outcome → Live K → Type 0
+WorksWith asked old (Some outcome.NoMemory) new = (length asked.draws ≤ draws_for asked.work) × Stays asked.session old new
+WorksWith asked old o new = WorkIsDone asked old o new
 
 -- the same for the result of the code
 abbrev pub Works : {K : Type 0} → ℕ → ℕ → Work → Live K → Handled → Live K → Type 0
-Works moment session work old handled new = WorksWith moment session work handled.draws.items old handled.outcome new
+Works moment session work old handled new = WorksWith (work_at moment session work handled.draws.items) old handled.outcome new
 
 -- ---- parts of the work
 

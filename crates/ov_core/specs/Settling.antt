@@ -39,41 +39,50 @@ AfterTry session None old new = new ≡ old
 abbrev pub to_do : WaitingList → ℕ
 to_do w = length w.untried + many w * many w
 
--- Settling from these, with these attempts listed, has begun with attempt number `first` and is under way: whatever follows,
--- the machine's settling comes to what was sent and the rest of settling from here.
-pub record IsSettling {K : Type 0} (failed : K → ℕ) (moment first : ℕ) (from : Live K) (before : List Attempt) (now : Live K) (listed : List Attempt) (number : ℕ) : Type 0 where
+-- a live state, and the attempts that are listed by then
+pub record SettlingState (K : Type 0) : Type 0 where
+  pub live : Live K
+  pub listed : List Attempt
+
+-- Settling has begun with attempt number `first`, and the next attempt has number `number`: whatever follows, the machine's
+-- settling comes to what was sent and the rest of settling from here.
+pub record IsSettling {K : Type 0} (failed : K → ℕ) (moment first : ℕ) (from now : SettlingState K) (number : ℕ) : Type 0 where
   pub made : List machine.Attempt
-  pub lists : map attempt_view listed ≡ map attempt_view before ++ made
+  pub lists : map attempt_view now.listed ≡ map attempt_view from.listed ++ made
   pub sent : List Sent
-  pub reaches : Reaches (state_of from moment) first made (state_of now moment) sent number now.waiting.untried
-  pub posts : PostsSent sent from.outbox.frames now.outbox.frames
-  pub asks : AsksAll failed made from.database now.database
-  pub left : IsLeft from.sessions.open_sessions now.sessions.open_sessions
-  pub tries : now.tries + first ≡ from.tries + number
+  pub reaches : Reaches (state_of from.live moment) first made (state_of now.live moment) sent number now.live.waiting.untried
+  pub posts : PostsSent sent from.live.outbox.frames now.live.outbox.frames
+  pub asks : AsksAll failed made from.live.database now.live.database
+  pub left : IsLeft from.live.sessions.open_sessions now.live.sessions.open_sessions
+  pub tries : now.live.tries + first ≡ from.live.tries + number
   -- so the number never exceeds that of a first try and one for each pair of those that waited
-  pub few : number + number + (length now.waiting.untried + length now.waiting.untried) + many now.waiting * many now.waiting
-      ≤ first + first + (length from.waiting.outstanding + length from.waiting.outstanding * length from.waiting.outstanding) + many now.waiting
+  pub few : number + number + (length now.live.waiting.untried + length now.live.waiting.untried) + many now.live.waiting * many now.live.waiting
+      ≤ first + first + (length from.live.waiting.outstanding + length from.live.waiting.outstanding * length from.live.waiting.outstanding) + many now.live.waiting
 
 -- The waiting transactions are settled, beginning with attempt number `first`.
-pub record Settles {K : Type 0} (failed : K → ℕ) (moment first : ℕ) (old : Live K) (before : List Attempt) (new : Live K) (listed : List Attempt) : Type 0 where
+pub record Settles {K : Type 0} (failed : K → ℕ) (moment first : ℕ) (old new : SettlingState K) : Type 0 where
   pub made : List machine.Attempt
-  pub lists : map attempt_view listed ≡ map attempt_view before ++ made
+  pub lists : map attempt_view new.listed ≡ map attempt_view old.listed ++ made
   pub sent : List Sent
   pub next : ℕ
-  pub settles : settle (state_of old moment) first made ≡ Some (record { tried = record { stepped = record { state = state_of new moment; sent = sent }; others = [] }; next = next; has_changed = false })
-  pub posts : PostsSent sent old.outbox.frames new.outbox.frames
-  pub asks : AsksAll failed made old.database new.database
-  pub left : IsLeft old.sessions.open_sessions new.sessions.open_sessions
+  pub settles : settle (state_of old.live moment) first made ≡ Some (record { tried = record { stepped = record { state = state_of new.live moment; sent = sent }; others = [] }; next = next; has_changed = false })
+  pub posts : PostsSent sent old.live.outbox.frames new.live.outbox.frames
+  pub asks : AsksAll failed made old.live.database new.live.database
+  pub left : IsLeft old.live.sessions.open_sessions new.live.sessions.open_sessions
   -- each try is counted
-  pub tries : new.tries ≡ old.tries + (next - first)
-  pub untried : new.waiting.untried ≡ []
+  pub tries : new.live.tries ≡ old.live.tries + (next - first)
+  pub untried : new.live.waiting.untried ≡ []
 
--- The result of an event at the moment, with these identifiers drawn and these attempts listed.
-pub record ComesTo {K : Type 0} (failed : K → ℕ) (moment : ℕ) (event : machine.Event) (old : Live K) (draws : List Uuid) (attempts : List Attempt) (new : Live K) : Type 0 where
+-- the choice of an event at the moment, with these identifiers drawn and these attempts listed
+abbrev pub choice_of : ℕ → List Uuid → List Attempt → machine.Choice
+choice_of moment draws attempts = record { moment = moment; draws = draws; outcomes = map attempt_view attempts }
+
+-- The result of an event with this choice.
+pub record ComesTo {K : Type 0} (failed : K → ℕ) (choice : machine.Choice) (event : machine.Event) (old new : Live K) : Type 0 where
   pub sent : List Sent
-  pub happens : machine.happens (state_of old moment) (record { moment = moment; draws = draws; outcomes = map attempt_view attempts }) event ≡ Some (record { state = state_of new moment; sent = sent })
+  pub happens : machine.happens (state_of old choice.moment) choice event ≡ Some (record { state = state_of new choice.moment; sent = sent })
   pub posts : PostsSent sent old.outbox.frames new.outbox.frames
-  pub asks : AsksAll failed (map attempt_view attempts) old.database new.database
+  pub asks : AsksAll failed choice.outcomes old.database new.database
   pub left : IsLeft old.sessions.open_sessions new.sessions.open_sessions
-  pub tries : CountsTries (state_of old moment) (record { moment = moment; draws = draws; outcomes = map attempt_view attempts }) event old.tries new.tries
+  pub tries : CountsTries (state_of old choice.moment) choice event old.tries new.tries
   pub untried : new.waiting.untried ≡ []

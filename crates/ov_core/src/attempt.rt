@@ -51,11 +51,17 @@ pub(crate) fn try_once<K: Keeper + Drop>(
     asked: Asked<'_>,
 ) -> Trial
     ensures tried { IsTrial
-        (sessions_of audience.entry.watchers.now audience.entry.sessions.now.open_sessions)
-        asked.entry.session asked.entry.id.now
-        (transaction db.old.schema db.old.committed (owns outbox.old.queues asked.entry.session)
-        asked.entry.txn.now.draws asked.entry.age asked.entry.txn.now.operations)
-        db.old outbox.old.frames result db.new outbox.new.frames }
+        (record {
+          sessions = sessions_of audience.entry.watchers.now
+              audience.entry.sessions.now.open_sessions;
+          session = asked.entry.session;
+          id = asked.entry.id.now;
+          outcome = transaction db.old.schema db.old.committed
+              (owns outbox.old.queues asked.entry.session) asked.entry.txn.now.draws
+              asked.entry.age asked.entry.txn.now.operations;
+        })
+        (record { database = db.old; frames = outbox.old.frames }) result
+        (record { database = db.new; frames = outbox.new.frames }) }
     ensures queues { outbox.new.queues ≡ outbox.old.queues }
     ensures asks { AsksStore K.failed (outcome_in result) db.old db.new }
     ensures counts { K.failed db.old.keeper ≤ K.failed db.new.keeper }

@@ -13,8 +13,8 @@ ghost use Rattle.ov_sessions.specs.Sessions.{has_serial};
 ghost use Rattle.ov_laws.specs.Attempts.{own_attempts};
 ghost use Rattle.ov_core.specs.Counting.{RisesBy};
 ghost use Rattle.ov_core.specs.Handling.{AsksStore, HasRoomToWait, Works, WorksWith, HasSameRest};
-ghost use Rattle.ov_core.specs.Handling.{WaitsIfRoom, CancelsIfRoom, listed_of};
-ghost use Rattle.ov_core.specs.Settling.{ComesTo};
+ghost use Rattle.ov_core.specs.Handling.{WaitsIfRoom, CancelsIfRoom, listed_of, work_at};
+ghost use Rattle.ov_core.specs.Settling.{ComesTo, choice_of};
 ghost use Rattle.ov_core.specs.States.{state_of};
 
 use crate::attempt::{Asked, Trial, try_once};
@@ -83,8 +83,8 @@ impl<K: Keeper + Drop> Live<K> {
         requires waits { (message : Message) × StandsFor incoming message
             × HasRoomToWait moment session message self.old }
         ensures comes_to { (message : Message) → StandsFor incoming message
-            → ComesTo K.failed moment (spec.Take session message) self.old result.items
-            attempts.new.items self.new }
+            → ComesTo K.failed (choice_of moment result.items attempts.new.items)
+            (spec.Take session message) self.old self.new }
         ensures honest { K.is_honest self.new.database.keeper
             → K.is_honest self.old.database.keeper }
         ensures drawn { DrawsFrom D.draws source.old result.items source.new }
@@ -148,7 +148,7 @@ impl<K: Keeper + Drop> Live<K> {
         requires undrawn { IsWithoutDraws work }
         ensures works { (moment : ℕ) (asked : spec.Work)
             → IsWork (state_of self.old moment) session asked work
-            → WorksWith moment session asked [] self.old result self.new }
+            → WorksWith (work_at moment session asked []) self.old result self.new }
         ensures rest { HasSameRest self.old result self.new }
     {
         match work {

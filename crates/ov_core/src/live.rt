@@ -2,7 +2,7 @@ ghost use Rattle.std.specs.Prelude.{◌≡◌, ◌≤◌, [], length, vec_capaci
 ghost use Rattle.ov_specs.specs.machine.Machine.{Tick};
 ghost use Rattle.ov_sessions.specs.Sessions.{has_no_room};
 ghost use Rattle.ov_core.specs.Sessions.{ClosesSession, OpensLive};
-ghost use Rattle.ov_core.specs.Settling.{ComesTo};
+ghost use Rattle.ov_core.specs.Settling.{ComesTo, choice_of};
 
 use ov_db::Db;
 use ov_history::Attempt;
@@ -81,7 +81,8 @@ impl<K: Keeper + Drop> Live<K> {
         requires untried { self.old.waiting.untried ≡ [] }
         requires none { attempts.old.items ≡ [] }
         requires room { length self.old.waiting.outstanding ≤ vec_capacity attempts.old }
-        ensures comes_to { ComesTo K.failed moment Tick self.old [] attempts.new.items self.new }
+        ensures comes_to { ComesTo K.failed (choice_of moment [] attempts.new.items) Tick self.old
+            self.new }
         ensures honest { K.is_honest self.new.database.keeper
             → K.is_honest self.old.database.keeper }
     {

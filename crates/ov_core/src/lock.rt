@@ -2,7 +2,7 @@ ghost use Rattle.std.specs.Prelude.{◌≡◌, ℕ, []};
 ghost use Rattle.ov_locks.specs.Calls.{lock_call_view};
 ghost use Rattle.ov_specs.specs.locks.Queues.{call_refusal};
 ghost use Rattle.ov_specs.specs.machine.Machine as spec;
-ghost use Rattle.ov_core.specs.Handling.{WorksWith, HasSameRest};
+ghost use Rattle.ov_core.specs.Handling.{WorksWith, HasSameRest, work_at};
 
 use crate::live::Live;
 use crate::send::send;
@@ -24,11 +24,13 @@ impl<K: Keeper + Drop> Live<K> {
         name: &str,
     ) -> Option<Outcome>
         ensures works { (moment : ℕ)
-            → WorksWith moment session
+            → WorksWith
+            (work_at moment session
             (spec.unless_refused id
             (call_refusal (lock_call_view call) name.now session self.old.outbox.queues)
             (spec.Locks (lock_call_view call) id name.now))
-            [] self.old result self.new }
+            [])
+            self.old result self.new }
         ensures rest { HasSameRest self.old result self.new }
     {
         match self.outbox.ask(alloc, call, session, &id, name) {
@@ -43,7 +45,8 @@ impl<K: Keeper + Drop> Live<K> {
     /// Replies with an error in place of a result.
     pub fn refuse(&mut self, alloc: Global, session: u64, id: Tree, text: &str) -> Option<Outcome>
         ensures works { (moment : ℕ)
-            → WorksWith moment session (spec.refused id text.now) [] self.old result self.new }
+            → WorksWith (work_at moment session (spec.refused id text.now) []) self.old result
+            self.new }
         ensures rest { HasSameRest self.old result self.new }
     {
         match failure(alloc, id, text) {

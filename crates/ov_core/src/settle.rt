@@ -1,13 +1,11 @@
-ghost use Rattle.std.specs.Prelude.{◌≡◌, ℕ, ◌+◌, ◌-◌, ◌<◌, ◌≤◌, ◌^◌, List, [], length, vec_len};
+ghost use Rattle.std.specs.Prelude.{◌≡◌, ℕ, ◌+◌, ◌-◌, ◌<◌, ◌≤◌, ◌^◌, [], length, vec_len};
 ghost use Rattle.std.specs.Prelude.{vec_capacity};
 ghost use Rattle.ov_specs.specs.locks.Queues.{owns};
 ghost use Rattle.ov_specs.specs.operations.Transaction.{transaction};
 ghost use Rattle.ov_requests.specs.Waiting.{many};
 ghost use Rattle.ov_core.specs.Handling.{AsksStore, IsTrial, outcome_in};
-ghost use Rattle.ov_core.specs.Settling.{AfterTry, to_do, IsSettling, Settles};
+ghost use Rattle.ov_core.specs.Settling.{AfterTry, to_do, SettlingState, IsSettling, Settles};
 ghost use Rattle.ov_core.specs.States.{sessions_of};
-ghost use Rattle.ov_history.specs.declared.event.Attempt.{Attempt as Listed};
-ghost use Rattle.ov_core.specs.declared.live.Live.{Live as Living};
 
 use crate::attempt::{Asked, Trial, try_once};
 use crate::live::Live;
@@ -30,8 +28,9 @@ impl<K: Keeper + Drop> Live<K> {
         requires room { vec_len attempts.old + length self.old.waiting.outstanding
             ≤ vec_capacity attempts.old }
         requires first { first ≤ 2 }
-        ensures settles { Settles K.failed moment first self.old attempts.old.items self.new
-            attempts.new.items }
+        ensures settles { Settles K.failed moment first
+            (record { live = self.old; listed = attempts.old.items })
+            (record { live = self.new; listed = attempts.new.items }) }
         ensures honest { K.is_honest self.new.database.keeper
             → K.is_honest self.old.database.keeper }
     {
@@ -54,9 +53,11 @@ impl<K: Keeper + Drop> Live<K> {
         requires some { 0 < length self.old.waiting.untried }
         requires room { vec_len attempts.old + many self.old.waiting ≤ vec_capacity attempts.old }
         requires number { number < 2 ^ 63 }
-        ensures goes_on { (first : ℕ) (from : Living K) (before : List Listed)
-            → IsSettling K.failed moment first from before self.old attempts.old.items number
-            → IsSettling K.failed moment first from before self.new attempts.new.items result }
+        ensures goes_on { (first : ℕ) (from : SettlingState K)
+            → IsSettling K.failed moment first from
+            (record { live = self.old; listed = attempts.old.items }) number
+            → IsSettling K.failed moment first from
+            (record { live = self.new; listed = attempts.new.items }) result }
         ensures room { vec_len attempts.new + many self.new.waiting ≤ vec_capacity attempts.new }
         ensures falls { to_do self.new.waiting < to_do self.old.waiting }
         ensures honest { K.is_honest self.new.database.keeper
@@ -120,12 +121,17 @@ fn try_again<K: Keeper + Drop>(
     waits: &Outstanding,
 ) -> Trial
     ensures tried { IsTrial
-        (sessions_of audience.entry.watchers.now audience.entry.sessions.now.open_sessions)
-        waits.now.session waits.now.id
-        (transaction database.old.schema database.old.committed
-        (owns outbox.old.queues waits.now.session) waits.now.draws (moment - waits.now.arrival)
-        waits.now.operations)
-        database.old outbox.old.frames result database.new outbox.new.frames }
+        (record {
+          sessions = sessions_of audience.entry.watchers.now
+              audience.entry.sessions.now.open_sessions;
+          session = waits.now.session;
+          id = waits.now.id;
+          outcome = transaction database.old.schema database.old.committed
+              (owns outbox.old.queues waits.now.session) waits.now.draws
+              (moment - waits.now.arrival) waits.now.operations;
+        })
+        (record { database = database.old; frames = outbox.old.frames }) result
+        (record { database = database.new; frames = outbox.new.frames }) }
     ensures queues { outbox.new.queues ≡ outbox.old.queues }
     ensures asks { AsksStore K.failed (outcome_in result) database.old database.new }
     ensures counts { K.failed database.old.keeper ≤ K.failed database.new.keeper }

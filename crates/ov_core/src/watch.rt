@@ -6,7 +6,7 @@ ghost use Rattle.ov_specs.specs.machine.Machine as spec;
 ghost use Rattle.ov_specs.specs.monitors.Monitors.{added, canceled};
 ghost use Rattle.ov_specs.specs.monitors.Updates.{initial_of};
 ghost use Rattle.ov_specs.specs.wire.Frame.{reply_tree};
-ghost use Rattle.ov_core.specs.Handling.{PostsIfRoom, WorksWith, HasSameRest};
+ghost use Rattle.ov_core.specs.Handling.{PostsIfRoom, WorksWith, HasSameRest, work_at};
 ghost use Rattle.ov_core.specs.States.{state_of};
 
 use crate::live::Live;
@@ -32,11 +32,13 @@ impl<K: Keeper + Drop> Live<K> {
     ) -> Option<Outcome>
         requires open { has_serial session self.old.sessions.open_sessions ≡ true }
         ensures works { (moment : ℕ)
-            → WorksWith moment session
+            → WorksWith
+            (work_at moment session
             (spec.monitor_work (state_of self.old moment) id name.now
             (added self.old.database.schema (monitors_at session self.old.watchers) name.now
             requests.now))
-            [] self.old result self.new }
+            [])
+            self.old result self.new }
         ensures rest { HasSameRest self.old result self.new }
     {
         let Ok(copy) = name.copy() else {
@@ -105,10 +107,12 @@ impl<K: Keeper + Drop> Live<K> {
     ) -> Option<Outcome>
         requires open { has_serial session self.old.sessions.open_sessions ≡ true }
         ensures works { (moment : ℕ)
-            → WorksWith moment session
+            → WorksWith
+            (work_at moment session
             (spec.monitor_cancel_work id
             (canceled (monitors_at session self.old.watchers) name.now))
-            [] self.old result self.new }
+            [])
+            self.old result self.new }
         ensures rest { HasSameRest self.old result self.new }
     {
         match self.watchers.cancel(alloc, session, name) {

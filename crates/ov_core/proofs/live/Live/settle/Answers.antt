@@ -1,7 +1,7 @@
 use Rattle.std.proofs.Common.{ap, length, arith}
 use Rattle.ov_requests.specs.Waiting.{WaitingList, many}
 use Rattle.ov_core.proofs.Counting.{number_below}
-use Rattle.ov_core.proofs.Settlings.{begun, ended}
+use Rattle.ov_core.proofs.Settlings.{settling_at, begun, ended}
 use Rattle.ov_core.proofs.live.Live.settle.Goals as goal
 
 pub tries-init : goal.tries-init
@@ -29,7 +29,7 @@ pub tries-preserved : goal.tries-preserved
 tries-preserved g c =
     let i = c.tries.invariant in
     record {
-      settling = c.try_next-number.ensures.goes_on c.args.first c.args.self.now c.args.attempts.now.items i.settling;
+      settling = c.try_next-number.ensures.goes_on c.args.first (settling_at c.args.self.now c.args.attempts.now.items) i.settling;
       room = c.try_next-number.ensures.room;
       most = i.most;
       honest = λ honest. i.honest (c.try_next-number.ensures.honest honest);

@@ -5,7 +5,7 @@ use Rattle.ov_core.proofs.live.Live.settle.Given as goal
 
 abbrev pub invariant-tries : goal.invariant-tries
 invariant-tries g l = record {
-  settling : IsSettling g.K.Keeper.failed l.moment l.first l.fn.self l.fn.attempts.items l.self l.attempts.items l.number;
+  settling : IsSettling g.K.Keeper.failed l.moment l.first (record { live = l.fn.self; listed = l.fn.attempts.items }) (record { live = l.self; listed = l.attempts.items }) l.number;
   room : vec_len l.attempts + many l.self.waiting ≤ vec_capacity l.attempts;
   most : length l.fn.self.waiting.outstanding ≤ most_outstanding;
   honest : g.K.Keeper.is_honest l.self.database.keeper → g.K.Keeper.is_honest l.fn.self.database.keeper;

@@ -7,7 +7,7 @@ use Rattle.ov_core.specs.States.{state_of, sessions_of}
 use Rattle.ov_core.specs.declared.attempt.Trial.TheVariants.{Done}
 use Rattle.ov_specs.specs.machine.Machine as spec
 use Rattle.ov_core.proofs.Trying.{rises_by_one}
-use Rattle.ov_core.proofs.Workings.{nothing_drawn, trial_works, wait_works, wait_asks, wait_rest}
+use Rattle.ov_core.proofs.Workings.{request, trial_state, nothing_drawn, trial_works, wait_works, wait_asks, wait_rest}
 use Rattle.ov_core.proofs.live.Live.transact.Goals as goal
 
 pub returns-in_default-clause-works : goal.returns-in_default-clause-works
@@ -17,8 +17,7 @@ returns-in_default-clause-works g c =
 pub returns-in-Done-clause-works : goal.returns-in-Done-clause-works
 returns-in-Done-clause-works g c =
     let old = c.args.self.now in
-    let tried = subst (λ (ops : Items). IsTrial (sessions_of old.watchers old.sessions.open_sessions) c.args.session c.args.id (transaction old.database.schema old.database.committed (owns old.outbox.queues c.args.session) c.in-Ok.txn.draws 0 ops) old.database old.outbox.frames
-    (Done c.in-Done.outcome) c.try_once.new.db c.try_once.new.outbox.frames) c.in-Ok.ensures.operations c.in-Done.ensures.tried in
+    let tried = subst (λ (ops : Items). IsTrial (request (sessions_of old.watchers old.sessions.open_sessions) c.args.session c.args.id (transaction old.database.schema old.database.committed (owns old.outbox.queues c.args.session) c.in-Ok.txn.draws 0 ops)) (trial_state old.database old.outbox.frames) (Done c.in-Done.outcome) (trial_state c.try_once.new.db c.try_once.new.outbox.frames)) c.in-Ok.ensures.operations c.in-Done.ensures.tried in
     rw c.into_draws.ensures (trial_works c.args.moment c.args.session c.args.id c.in-Ok.txn.draws c.args.operations old c.in-Ok.ensures.count c.try_once.new.db c.try_once.new.outbox c.try_once.new.tries c.in-Done.ensures.queues c.in-Done.outcome tried)
 
 pub returns-in-Blocked-clause-works : goal.returns-in-Blocked-clause-works

@@ -7,18 +7,18 @@ use Rattle.ov_core.proofs.Settlings.{skipped, blocked, done, after_few, after_fa
 use Rattle.ov_core.proofs.live.Live.try_next.Goals as goal
 
 pub returns-then-not-is_open-clause-goes_on : goal.returns-then-not-is_open-clause-goes_on
-returns-then-not-is_open-clause-goes_on g c = λ first from before x.
+returns-then-not-is_open-clause-goes_on g c = λ first from x.
     let (rest, next) = c.in-Some.ensures in
     let away : has_serial c.in-Some.next.now.session c.args.self.now.sessions.open_sessions ≡ false = search rules in
-    rw (c.drop_next.ensures c.in-Some.next.now rest next) (skipped g.K.Keeper.failed c.args.moment first from before c.args.self.now c.args.attempts.now.items c.args.number x c.in-Some.next.now rest next away)
+    rw (c.drop_next.ensures c.in-Some.next.now rest next) (skipped g.K.Keeper.failed c.args.moment first from.live from.listed c.args.self.now c.args.attempts.now.items c.args.number x c.in-Some.next.now rest next away)
 
 pub returns-in-Blocked-clause-goes_on : goal.returns-in-Blocked-clause-goes_on
-returns-in-Blocked-clause-goes_on g c = λ first from before x.
+returns-in-Blocked-clause-goes_on g c = λ first from x.
     let (rest, next) = c.in-Some.ensures in
     let tried = c.in-Blocked.ensures.tried in
     let there : has_serial c.in-Some.next.now.session c.args.self.now.sessions.open_sessions ≡ true = search rules in
     rw (tried.1, c.in-Blocked.ensures.counted, c.wait_again.ensures c.in-Some.next.now rest next)
-    (blocked g.K.Keeper.failed c.args.moment first from before c.args.self.now c.args.attempts.now.items c.args.number x c.in-Some.next.now rest next there c.try_again.new.outbox c.in-Blocked.timeout c.in-Blocked.ensures.queues tried.2 tried.0)
+    (blocked g.K.Keeper.failed c.args.moment first from.live from.listed c.args.self.now c.args.attempts.now.items c.args.number x c.in-Some.next.now rest next there c.try_again.new.outbox c.in-Blocked.timeout c.in-Blocked.ensures.queues tried.2 tried.0)
 
 pub returns-in-Blocked-clause-room : goal.returns-in-Blocked-clause-room
 returns-in-Blocked-clause-room g c =
@@ -35,11 +35,11 @@ returns-in-Blocked-clause-falls g c =
     rw (c.wait_again.ensures c.in-Some.next.now rest next, same) (omega (arith, one))
 
 pub returns-in-Done-clause-goes_on : goal.returns-in-Done-clause-goes_on
-returns-in-Done-clause-goes_on g c = λ first from before x.
+returns-in-Done-clause-goes_on g c = λ first from x.
     let (rest, next) = c.in-Some.ensures in
     let there : has_serial c.in-Some.next.now.session c.args.self.now.sessions.open_sessions ≡ true = search rules in
     let after = rw (c.session-session.ensures, c.in-Done.ensures.counted, c.drop_next-in-Done.ensures c.in-Some.next.now rest next) at c.after_try.ensures.after in
-    done g.K.Keeper.failed c.args.moment first from before c.args.self.now c.args.attempts.now.items c.args.number x c.in-Some.next.now rest next there c.try_again.new.database c.try_again.new.outbox c.in-Done.ensures.queues
+    done g.K.Keeper.failed c.args.moment first from.live from.listed c.args.self.now c.args.attempts.now.items c.args.number x c.in-Some.next.now rest next there c.try_again.new.database c.try_again.new.outbox c.in-Done.ensures.queues
     c.in-Done.outcome c.after_try.new.self c.list_attempt.new.attempts.items c.list_attempt.ensures.items after c.in-Done.ensures.tried c.in-Done.ensures.asks c.in-Done.ensures.counts
 
 pub returns-in-Done-clause-room : goal.returns-in-Done-clause-room

@@ -1,4 +1,4 @@
-use Rattle.std.proofs.Common.{◌≤◌, refl, rules}
+use Rattle.std.proofs.Common.{◌≤◌, [], refl, rules}
 use Rattle.ov_core.proofs.Steps.{ticked, has_entered}
 use Rattle.ov_specs.specs.machine.Machine.{Tick}
 use Rattle.ov_core.proofs.machine.Core.tick_at.Goals as goal
@@ -12,7 +12,7 @@ returns-clause-ticked g c =
 pub invariant_of-self : goal.invariant_of-self
 invariant_of-self g c =
     let low : c.self.inside.moment ≤ c.args.moment = search rules in (
-      has_entered g.K.Keeper.failed Tick c.self.inside.live c.tick.new.self c.self.inside.moment c.args.moment _ c.tick.new.attempts.items c.tick.ensures.comes_to c.self.inside.history c.push.new.self c.entry_with_choice.result
+      has_entered g.K.Keeper.failed Tick c.self.inside.live c.tick.new.self c.self.inside.moment c.args.moment [] c.tick.new.attempts.items c.tick.ensures.comes_to c.self.inside.history c.push.new.self c.entry_with_choice.result
           low c.push.ensures (rw c.new.ensures.items at c.entry_with_choice.ensures) refl c.self.invariant.0,
       c.tick.ensures.comes_to.untried,
     )
