@@ -1,8 +1,7 @@
 -- What whole histories say of a session that was served to its end.
-use Rattle.std.proofs.Common.{◌≡◌, ◌≤◌, ℕ, List, [], ◌∷◌, ◌++◌, refl, sym, ap, subst, ◌∙◌, append-nil, Bool, Option}
+use Rattle.std.proofs.Common.{◌≡◌, ◌≤◌, ℕ, List, [], ◌∷◌, ◌++◌, refl, sym, ap, subst, ◌∙◌, append-nil, Option}
 use Rattle.std.specs.Option.{option_or}
 use Rattle.std.proofs.lemmas.Grind.{flat_map-append}
-use Rattle.ov_ends.specs.States.{SourceState, SinkState}
 use Rattle.ov_specs.specs.wire.Message.{Message}
 use Rattle.ov_specs.specs.machine.Machine as machine
 use Rattle.ov_specs.specs.machine.Machine.{opening}
@@ -12,25 +11,29 @@ use Rattle.ov_outbox.specs.Frames.{waiting_for}
 use Rattle.ov_history.specs.declared.event.Cause.{Cause}
 use Rattle.ov_core.specs.Following.{CoreState}
 use Rattle.ov_lanes.specs.Since.{Since, course_of, and_then_handed}
-use Rattle.ov_desk.specs.Outcome.{Outcome}
-use Rattle.ov_desk.specs.Ending.{EndsBehind, is_written, CourseEnds, LinkEnds}
+use Rattle.ov_desk.specs.LinkStates.{LinkState}
+use Rattle.ov_desk.specs.Outcome.{Account, Finish, Outcome}
+use Rattle.ov_desk.specs.Ending.{EndsAfter, finish_for, CourseEnds, LinkEnds}
 use Rattle.ov_lanes.proofs.Unopened.{later_is_unopened}
 
 first_empty : {A : Type 0} (xs ys : List A) → xs ++ ys ≡ [] → xs ≡ []
 first_empty [] ys h = refl
 first_empty (x ∷ xs) ys h = cc
 
-pub outcome_as : (closed closed' : Option machine.Cause) (messages messages' : List Message) (sent sent' : List (List ℕ)) (why : machine.Cause) (is_whole : Bool) (source source' : SourceState) (sink sink' : SinkState)
-    → closed' ≡ closed → messages' ≡ messages → sent' ≡ sent → Outcome closed messages sent why is_whole source source' sink sink' → Outcome closed' messages' sent' why is_whole source source' sink sink'
-outcome_as closed closed' messages messages' sent sent' why is_whole source source' sink sink' a b c o =
-    subst (λ k. Outcome k messages' sent' why is_whole source source' sink sink') (sym a)
-    (subst (λ k. Outcome closed k sent' why is_whole source source' sink sink') (sym b)
-    (subst (λ k. Outcome closed messages k why is_whole source source' sink sink') (sym c) o))
+-- what a history says
+abbrev pub said : Option machine.Cause → List Message → List (List ℕ) → Account
+said closed messages sent = record { closed = closed; messages = messages; sent = sent }
+
+pub outcome_as : (closed closed' : Option machine.Cause) (messages messages' : List Message) (sent sent' : List (List ℕ)) (finish : Finish) (x y : LinkState)
+    → closed' ≡ closed → messages' ≡ messages → sent' ≡ sent → Outcome (said closed messages sent) finish x y → Outcome (said closed' messages' sent') finish x y
+outcome_as closed closed' messages messages' sent sent' finish x y a b c o =
+    subst (λ k. Outcome (said k messages' sent') finish x y) (sym a)
+    (subst (λ k. Outcome (said closed k sent') finish x y) (sym b)
+    (subst (λ k. Outcome (said closed messages k) finish x y) (sym c) o))
 
 module _ {K D : Type 0} {old new : CoreState K D} (since : Since old new) (n : ℕ) (later : old.state.next ≤ n) (none_left : waiting_for n new.outbox ≡ []) where
-  pub ends_past : (why : machine.Cause) (is_whole : Bool) (source source' : SourceState) (sink sink' : SinkState)
-      → Outcome (closed_by old.state since.entries n) (requests since.entries n) (since.handed n) why is_whole source source' sink sink' → EndsBehind since n why is_whole source source' sink sink'
-  ends_past why is_whole source source' sink sink' o schema database history given f =
+  pub ends_past : (finish : Finish) (x y : LinkState) → Outcome (said (closed_by old.state since.entries n) (requests since.entries n) (since.handed n)) finish x y → EndsAfter since n finish x y
+  ends_past finish x y o schema database history given f =
       let f' = since.follows (opening schema database) history given f in
       let before : machine.Stepped = record { state = old.state; sent = f.sent } in
       let to_come = later_is_unopened schema database history before n later f.legal in
@@ -45,14 +48,13 @@ module _ {K D : Type 0} {old new : CoreState K D} (since : Since old new) (n : �
         reached = record { state = new.state; sent = f'.sent };
         legal = f'.legal;
         comes_to = outcome_as (closed_by old.state since.entries n) (closed_by (opening schema database) (history ++ since.entries) n) (requests since.entries n) (requests (history ++ since.entries) n) (since.handed n) (frames_to n f'.sent)
-            why is_whole source source' sink sink' closed messages sent o;
+            finish x y closed messages sent o;
       }
 
 -- what a session comes to, in each history
-pub link_ends : {K D : Type 0} {old new : CoreState K D} (since : Since old new) (n : ℕ) → old.state.next ≤ n → (told : Cause) (source source' : SourceState) (sink sink' : SinkState)
-    → CourseEnds (course_of since n) told source source' sink sink' → LinkEnds since n told source source' sink sink'
-link_ends since n later told source source' sink sink' e = record {
+pub link_ends : {K D : Type 0} {old new : CoreState K D} (since : Since old new) (n : ℕ) → old.state.next ≤ n → (told : Cause) (x y : LinkState) → CourseEnds (course_of since n) told x y → LinkEnds since n told x y
+link_ends since n later told x y e = record {
   why = e.why;
   told_for = e.told_for;
-  ends = ends_past since n later e.none_left e.why (is_written told) source source' sink sink' e.comes_to;
+  ends = ends_past since n later e.none_left (finish_for e.why told) x y e.comes_to;
 }

@@ -1,7 +1,6 @@
 -- What is left of all links, once their lanes fit what became of their sessions.
 use Rattle.std.proofs.Common.{◌≡◌, ℕ, zero, suc, ◌+◌, ◌≤◌, List, [], ◌∷◌, get_or, sym, ap, subst, ◌∙◌, Option, Some, None, arith}
 use Rattle.std.proofs.lemmas.Option.{same_Some}
-use Rattle.ov_ends.specs.States.{SourceState, SinkState}
 use Rattle.ov_core.specs.Following.{CoreState}
 use Rattle.ov_lanes.specs.Since.{Since, course_of}
 use Rattle.ov_lanes.specs.Lanes.{IsAt, AreNewLanes, LaneFits, SameLane, StayAs}
@@ -9,6 +8,7 @@ use Rattle.ov_lanes.specs.Pairs.{Threewise}
 use Rattle.ov_lanes.specs.declared.lane.Lane.{Lane}
 use Rattle.ov_lanes.specs.declared.link.Link.{Link}
 use Rattle.ov_lanes.proofs.PlaceLaws.{some_before}
+use Rattle.ov_desk.specs.LinkStates.{LinkState}
 use Rattle.ov_desk.specs.declared.link.End.{End}
 use Rattle.ov_desk.specs.Ending.{CourseEnds, LinkEnds}
 use Rattle.ov_desk.specs.Ends.{EndsLane, EndsSeat, AllEnd}
@@ -34,16 +34,16 @@ count_stays serial ls ms s count i m is =
     let x = some_before SameLane (get_or ls i None) (get_or ms i None) m (s.each i) is in
     ap (λ k. k.serial) x.2.2 ∙ count i x.0 x.1
 
-module _ {K D S W : Type 0} {old new : CoreState K D} (source : S → SourceState) (sink : W → SinkState) (since : Since old new) where
-  one_ends : (base : ℕ) → old.state.next ≤ base → (l : Lane) (e : End S W) (k : Link S W) → l.session.serial ≡ base → LaneFits since l → EndsLane source sink k l e
-      → LinkEnds since base e.cause (source k.reader) (source e.reader) (sink k.writer) (sink e.writer)
-  one_ends base later l e k serial fits ends =
-      let comes = ends.1 (course_of since l.session.serial) fits in
-      link_ends since base later e.cause (source k.reader) (source e.reader) (sink k.writer) (sink e.writer)
-      (subst (λ (n : ℕ). CourseEnds (course_of since n) e.cause (source k.reader) (source e.reader) (sink k.writer) (sink e.writer)) serial comes)
+module _ {K D S W : Type 0} {old new : CoreState K D} (ends : S → W → LinkState) (since : Since old new) where
+  one_ends : (base : ℕ) → old.state.next ≤ base → (l : Lane) (e : End S W) (k : Link S W) → l.session.serial ≡ base → LaneFits since l → EndsLane ends k l e
+      → LinkEnds since base e.cause (ends k.reader k.writer) (ends e.reader e.writer)
+  one_ends base later l e k serial fits comes_to =
+      let comes = comes_to.1 (course_of since l.session.serial) fits in
+      link_ends since base later e.cause (ends k.reader k.writer) (ends e.reader e.writer)
+      (subst (λ (n : ℕ). CourseEnds (course_of since n) e.cause (ends k.reader k.writer) (ends e.reader e.writer)) serial comes)
 
   pub all_end : (base : ℕ) → old.state.next ≤ base → (ks : List (Link S W)) (ls : List (Option Lane)) (es : List (End S W)) → ((i : ℕ) (l : Lane) → IsAt ls i l → LaneFits since l) → CountUp base ls
-      → Threewise (λ k p e. EndsSeat source sink k p e) ks ls es → AllEnd source sink since base ks es
+      → Threewise (λ k p e. EndsSeat ends k p e) ks ls es → AllEnd ends since base ks es
   unfolding CountUp
   all_end base later [] [] [] fits count t = tt
   all_end base later [] [] (e ∷ es) fits count t = absurd t

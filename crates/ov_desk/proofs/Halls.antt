@@ -12,39 +12,76 @@ use Rattle.ov_sessions.specs.declared.session.Session.{Session}
 use Rattle.ov_history.specs.declared.event.Stepped.TheVariants as answer
 use Rattle.ov_core.specs.Following.{CoreState}
 use Rattle.ov_core.specs.Stepping.{IsEntered}
-use Rattle.ov_lanes.specs.Lanes.{AreOver, GoesOn, IsAt}
+use Rattle.ov_lanes.specs.Lanes.{AreOver, PlacesGoOn, IsAt}
+use Rattle.ov_lanes.specs.declared.desk.Desk.{Desk}
 use Rattle.ov_lanes.specs.declared.lane.Lane.{Lane}
-use Rattle.ov_lanes.proofs.PlaceLaws.{freed, none_some, at_below}
+use Rattle.ov_lanes.proofs.PlaceLaws.{freed, none_some, at_below, goes_none, goes_along}
+use Rattle.ov_desk.specs.declared.hall.Hall.{Hall}
+use Rattle.ov_desk.specs.Guests.{TendsHall}
+use Rattle.ov_desk.specs.LinkStates.{LinkState}
+use Rattle.ov_desk.specs.Seats.{AreSeats}
+use Rattle.ov_desk.proofs.Guests.{leaves_none, leaves_along}
 use Rattle.ov_desk.specs.Admitting.{Admits}
 use Rattle.ov_desk.specs.declared.admit.Admitted.{Admitted}
 use Rattle.ov_desk.specs.declared.admit.Admitted.TheVariants as admitted
 
 -- a place is free, whose session's reader has ended if there was one
-pub goes_left : {K D : Type 0} {a : CoreState K D} (at : ℕ) (ls : List (Option Lane)) (i : ℕ) → i < length ls → ((l : Lane) → IsAt ls i l → l.ended ≡ true) → GoesOn at a ls a (slice_set ls i None)
+pub goes_left : {K D : Type 0} {a : CoreState K D} (at : ℕ) (ls : List (Option Lane)) (i : ℕ) → i < length ls → ((l : Lane) → IsAt ls i l → l.ended ≡ true) → PlacesGoOn at a ls a (slice_set ls i None)
 goes_left at ls i lt ended start s = freed at ls i lt s ended
 
--- a session that was opened is open
-pub opened_there : {K D : Type 0} {a b : CoreState K D} (draws : D → Uuid → D → Type 0) (at : ℕ) (session : Session) → IsEntered draws at machine.Open a (answer.Opened session) b → is_open b.state a.state.next ≡ true
+-- a session that was opened is open, and its serial was the next one
+pub opened_there : {K D : Type 0} {a b : CoreState K D} (draws : D → Uuid → D → Type 0) (at : ℕ) (session : Session) → IsEntered draws at machine.Open a (answer.Opened session) b → (is_open b.state a.state.next ≡ true) × (b.state.next ≡ a.state.next + 1)
 opened_there {a = a} {b = b} draws at session entered =
     let n = a.state.next in
-    (turn_open n a.state entered.entry (record { state = b.state; sent = entered.moves.sent }) entered.moves.stepped entered.tells.0).open_is
-    ∙ (ap (λ (k : Bool). is_open a.state n || k) (eq-eqb n n refl) ∙ or_truth (is_open a.state n))
+    let turn = turn_open n a.state entered.entry (record { state = b.state; sent = entered.moves.sent }) entered.moves.stepped entered.tells.0 in
+    (turn.open_is ∙ (ap (λ (k : Bool). is_open a.state n || k) (eq-eqb n n refl) ∙ or_truth (is_open a.state n)), turn.next_is)
 
 -- what a link was admitted to
-pub admitted_goes : {K D : Type 0} {a b c : CoreState K D} (at : ℕ) (ls ms : List (Option Lane)) (i : ℕ) (m : Lane) → c ≡ b → ms ≡ slice_set ls i (Some m) → GoesOn at a ls b (slice_set ls i (Some m)) → GoesOn at a ls c ms
+pub admitted_goes : {K D : Type 0} {a b c : CoreState K D} (at : ℕ) (ls ms : List (Option Lane)) (i : ℕ) (m : Lane) → c ≡ b → ms ≡ slice_set ls i (Some m) → PlacesGoOn at a ls b (slice_set ls i (Some m)) → PlacesGoOn at a ls c ms
 admitted_goes {a = a} {c = c} at ls ms i m same is goes =
-    subst (λ (l : List (Option Lane)). GoesOn at a ls c l) (sym is) (subst (λ (k : CoreState _ _). GoesOn at a ls k (slice_set ls i (Some m))) (sym same) goes)
+    subst (λ (l : List (Option Lane)). PlacesGoOn at a ls c l) (sym is) (subst (λ (k : CoreState _ _). PlacesGoOn at a ls k (slice_set ls i (Some m))) (sym same) goes)
 
 -- whatever it was, the lanes that were there are there
-pub admitted_stays : {K D : Type 0} (bells parts : ℕ) (old new : CoreState K D) (ls ms : List (Option Lane)) (result : Admitted) → Admits bells parts old ls result new ms → (at : ℕ) (l : Lane) → IsAt ls at l → IsAt ms at l
-admitted_stays bells parts old new ls ms admitted.Opened a at l is =
-    let place = a.1 in
+pub admitted_stays : {K D : Type 0} (bells parts : ℕ) (old new : Desk K D) (result : Admitted) → Admits bells parts old result new → (at : ℕ) (l : Lane) → IsAt old.lanes.items at l → IsAt new.lanes.items at l
+admitted_stays bells parts old new admitted.Opened a at l is =
+    let place = a.place in
     elim (cases_eq at place.0) [
-      | inl e ↦ absurd (none_some l (sym place.3 ∙ (ap (λ (k : ℕ). get_or ls k None) (sym e) ∙ is)))
-      | inr ne ↦ ap (λ (k : List (Option Lane)). get_or k at None) place.4 ∙ (get_or-set_other ls place.0 at (Some place.1) None ne ∙ is)
+      | inl e ↦ absurd (none_some l (sym place.3 ∙ (ap (λ (k : ℕ). get_or old.lanes.items k None) (sym e) ∙ is)))
+      | inr ne ↦ ap (λ (k : List (Option Lane)). get_or k at None) place.4 ∙ (get_or-set_other old.lanes.items place.0 at (Some place.1) None ne ∙ is)
     ]
-admitted_stays bells parts old new ls ms admitted.Full a at l is = ap (λ (k : List (Option Lane)). get_or k at None) a.2 ∙ is
-admitted_stays bells parts old new ls ms (admitted.Refused why) a at l is = ap (λ (k : List (Option Lane)). get_or k at None) a.2 ∙ is
+admitted_stays bells parts old new admitted.Full a at l is = ap (λ (k : List (Option Lane)). get_or k at None) a.1.1 ∙ is
+admitted_stays bells parts old new (admitted.Refused why) a at l is = ap (λ (k : List (Option Lane)). get_or k at None) a.1.1 ∙ is
+
+-- and each session that was opened is open
+pub admitted_open : {K D : Type 0} (bells parts : ℕ) (old new : Desk K D) (result : Admitted) → Admits bells parts old result new → (n : ℕ) → old.core.state.next ≤ n → n < new.core.state.next → is_open new.core.state n ≡ true
+admitted_open bells parts old new admitted.Opened a n high low =
+    let same : n ≡ old.core.state.next = (let next = a.next in omega (arith, high, low, next)) in
+    ap (λ (k : ℕ). is_open new.core.state k) same ∙ a.opened
+admitted_open bells parts old new admitted.Full a n high low = absurd (let next = ap (λ (k : CoreState _ _). k.state.next) a.1.0 in omega (arith, high, low, next))
+admitted_open bells parts old new (admitted.Refused why) a n high low = absurd (let next = ap (λ (k : CoreState _ _). k.state.next) a.1.0 in omega (arith, high, low, next))
+
+-- ---- a hall that is tended
+
+module _ {K D S W L : Type 0} (ends : S → W → LinkState) where
+  pub tends_none : (a : Hall K D S W L) → AreSeats a → TendsHall ends a a
+  tends_none a seats = record {
+    core = refl;
+    many = refl;
+    goes = λ moment. goes_none moment a.desk.core a.desk.lanes.items;
+    leaves = leaves_none ends a.desk.lanes.items;
+    same = (refl, refl);
+    seats = seats;
+  }
+
+  pub tends_along : (a b c : Hall K D S W L) → TendsHall ends a b → TendsHall ends b c → TendsHall ends a c
+  tends_along a b c x y = record {
+    core = y.core ∙ x.core;
+    many = y.many ∙ x.many;
+    goes = λ moment. goes_along moment a.desk.lanes.items b.desk.lanes.items c.desk.lanes.items (x.goes moment) (y.goes moment);
+    leaves = leaves_along ends a.desk.lanes.items b.desk.lanes.items c.desk.lanes.items x.leaves y.leaves;
+    same = (y.same.0 ∙ x.same.0, y.same.1 ∙ x.same.1);
+    seats = y.seats;
+  }
 
 -- ---- places that are freed one after another
 

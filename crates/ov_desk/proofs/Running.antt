@@ -6,38 +6,16 @@ use Rattle.std.proofs.lemmas.Grind.{get_or-set_at}
 use Rattle.std.proofs.lemmas.List.{get_or_default}
 use Rattle.std.proofs.lemmas.Option.{same_Some}
 use Rattle.rtrb.specs.Ring.{sent, received}
-use Rattle.ov_specs.specs.machine.Machine.{Entry, is_open}
-use Rattle.ov_core.specs.Following.{CoreState}
+use Rattle.ov_specs.specs.machine.Machine.{State, Entry, is_open}
 use Rattle.ov_lanes.specs.Moments.{AreTimed, AreTimedBy, Tells}
-use Rattle.ov_lanes.specs.Lanes.{IsAt, SameLane, PutsAlone, LooksAt, StaysAs, StayAs, TakesOne, AreOver, Serves, GoesOn}
+use Rattle.ov_lanes.specs.Lanes.{IsAt, SameLane, PutsAlone, LooksAt, StaysAs, StayAs, TakesOne, AreOver, Serves}
 use Rattle.ov_lanes.specs.declared.lane.Lane.{Lane}
-use Rattle.ov_lanes.proofs.Timing.{timed_more, tells_more}
 use Rattle.ov_lanes.proofs.PlaceLaws.{some_before, some_after}
-use Rattle.ov_desk.specs.Serving.{TakesTime, ServesLobby, ServesBy, RunsBy, times, AreApart, KeepsPlaces, KeepsHall, TakesNoted, IsTended}
-
--- ---- moments
-
-module _ {K D C : Type 0} (tells : C → ℕ → C → Type 0) where
-  pub runs_none : (a : CoreState K D) (ls : List (Option Lane)) (clock : C) → RunsBy tells a ls clock a ls clock
-  runs_none a ls clock = record {
-    moments = [];
-    told = refl;
-    serves = λ start s. record { after = s; more = []; adds = sym (append-nil s.since.entries); timed = (refl, refl) };
-  }
-
-  pub runs_more : (a b c : CoreState K D) (ls ms ns : List (Option Lane)) (clock mid last : C) (at : ℕ) → RunsBy tells a ls clock b ms mid → tells mid at last → GoesOn at b ms c ns → RunsBy tells a ls clock c ns last
-  runs_more a b c ls ms ns clock mid last at x told goes = record {
-    moments = x.moments ++ at ∷ [];
-    told = tells_more tells x.moments at clock mid last x.told told;
-    serves = λ start s.
-        let p = x.serves start s in let q = goes start p.after in
-        record {
-          after = q.after;
-          more = p.more ++ q.more;
-          adds = q.adds ∙ (ap (λ (l : List Entry). l ++ q.more) p.adds ∙ append_assoc s.since.entries p.more q.more);
-          timed = timed_more x.moments at a.state p.more q.more b.state c.state p.timed q.timed;
-        };
-  }
+use Rattle.ov_lanes.specs.declared.desk.Desk.{Desk}
+use Rattle.ov_desk.specs.declared.hall.Hall.{Hall}
+use Rattle.ov_desk.specs.Guests.{IsKept}
+use Rattle.ov_desk.specs.Timed.{Timed, TakesTime, with_clock}
+use Rattle.ov_desk.specs.Serving.{ServesLobby, ServesBy, times, AreApart, KeepsPlaces, KeepsHall, TakesNoted, IsTended}
 
 -- ---- places that are kept
 
@@ -210,24 +188,25 @@ looks_along ls ms ns x y = record { many = y.many ∙ x.many; each = λ at. one 
 
 -- ---- a hall that is kept
 
-pub hall_along : {A B : Type 0} (xs ys : List ℕ) (keeps keeps' keeps'' : Bool) (accepted accepted' accepted'' : Option A) (ls ms ns : List (Option Lane)) (ws ws' ws'' : B)
-    → KeepsHall xs keeps accepted ls ws keeps' accepted' ms ws' → KeepsHall ys keeps' accepted' ms ws' keeps'' accepted'' ns ws'' → KeepsHall (xs ++ ys) keeps accepted ls ws keeps'' accepted'' ns ws''
-hall_along xs ys keeps keeps' keeps'' accepted accepted' accepted'' ls ms ns ws ws' ws'' x y k none =
-    let p = x k none in let q = y p.0 p.1 in (
-      q.0,
-      q.1,
-      q.2 ∙ p.2,
-      λ apart. let first = p.3 apart in kept_along xs ys ls ms ns first (q.3 (apart_stays ls ms (kept_same xs ls ms first) apart)),
-    )
+module _ {K D S W L : Type 0} where
+  pub hall_along : (xs ys : List ℕ) (a b c : Hall K D S W L) → KeepsHall xs a b → KeepsHall ys b c → KeepsHall (xs ++ ys) a c
+  hall_along xs ys a b c x y k none =
+      let ls = a.desk.lanes.items in let ms = b.desk.lanes.items in
+      let p = x k none in let q = y p.0 p.1 in (
+        q.0,
+        q.1,
+        q.2 ∙ p.2,
+        λ apart. let first = p.3 apart in kept_along xs ys ls ms c.desk.lanes.items first (q.3 (apart_stays ls ms (kept_same xs ls ms first) apart)),
+      )
 
-pub hall_same : {A B : Type 0} (keeps : Bool) (accepted : Option A) (ls : List (Option Lane)) (ws : B) → KeepsHall [] keeps accepted ls ws keeps accepted ls ws
-hall_same keeps accepted ls ws k none = (k, none, refl, λ apart. kept_tended ls ls (tended_all ls))
+  pub hall_same : (a : Hall K D S W L) → KeepsHall [] a a
+  hall_same a k none = (k, none, refl, λ apart. kept_tended a.desk.lanes.items a.desk.lanes.items (tended_all a.desk.lanes.items))
 
-pub hall_puts : {A B : Type 0} (keeps : Bool) (accepted : Option A) (ls ms : List (Option Lane)) (ws : B) → StayAs PutsAlone ls ms → KeepsHall [] keeps accepted ls ws keeps accepted ms ws
-hall_puts keeps accepted ls ms ws s k none = (k, none, refl, λ apart. kept_puts ls ms s)
+  pub hall_puts : (a : Hall K D S W L) (d : Desk K D) → StayAs PutsAlone a.desk.lanes.items d.lanes.items → KeepsHall [] a (record a { desk = d })
+  hall_puts a d s k none = (k, none, refl, λ apart. kept_puts a.desk.lanes.items d.lanes.items s)
 
-pub hall_tended : {A B : Type 0} (keeps keeps' : Bool) (accepted accepted' : Option A) (ls ms : List (Option Lane)) (ws ws' : B) → (keeps' ≡ keeps) × (accepted' ≡ accepted) → (keeps ≡ true → StayAs IsTended ls ms × (ws' ≡ ws)) → KeepsHall [] keeps accepted ls ws keeps' accepted' ms ws'
-hall_tended keeps keeps' accepted accepted' ls ms ws ws' same kept k none = let x = kept k in (same.0 ∙ k, same.1 ∙ none, x.1, λ apart. kept_tended ls ms x.0)
+  pub hall_tended : (a b : Hall K D S W L) → (b.keeps ≡ a.keeps) × (b.accepted ≡ a.accepted) → IsKept a b → KeepsHall [] a b
+  hall_tended a b same kept k none = let x = kept k in (same.0 ∙ k, same.1 ∙ none, x.1, λ apart. kept_tended a.desk.lanes.items b.desk.lanes.items x.0)
 
 pub briefly : (old new : List ℕ) (note : Option ℕ) → MatchOption note (new ≡ old) (λ n. new ≡ old ++ n ∷ []) → new ≡ old ++ option_to_list note
 briefly old new None is = is ∙ sym (append-nil old)
@@ -235,28 +214,25 @@ briefly old new (Some n) is = is
 
 -- ---- from the first to the last
 
-pub time_of : {K D C : Type 0} (tells : C → ℕ → C → Type 0) (old mid new : CoreState K D) (clock clock' : C) (opened more entries : List Entry) (moments : List ℕ) → entries ≡ opened ++ more
-    → ((reported : ℕ) → AreTimed reported old.state opened mid.state) → Tells tells clock moments clock' → AreTimedBy moments mid.state more new.state → TakesTime tells old.state clock entries new.state clock'
-time_of tells old mid new clock clock' opened more entries moments parts opens told timed = record { opened = opened; others = more; mid = mid.state; parts = parts; opens = opens; moments = moments; told = told; timed = timed }
+pub time_of : {K D C : Type 0} (tells : C → ℕ → C → Type 0) (old new : Timed K D C) (mid : State) (opened more entries : List Entry) (moments : List ℕ) → entries ≡ opened ++ more
+    → ((reported : ℕ) → AreTimed reported old.core.state opened mid) → Tells tells old.clock moments new.clock → AreTimedBy moments mid more new.core.state → TakesTime tells old entries new
+time_of tells old new mid opened more entries moments parts opens told timed = record { opened = opened; others = more; mid = mid; parts = parts; opens = opens; moments = moments; told = told; timed = timed }
 
-module _ {K D C : Type 0} (tells : C → ℕ → C → Type 0) (a b : CoreState K D) (ls ms : List (Option Lane)) (clock clock' : C) (s : Serves a a ls) (none : s.since.entries ≡ []) where
+module _ {K D C : Type 0} (tells : C → ℕ → C → Type 0) (a b : Desk K D) (clock clock' : C) (s : Serves a.core a.core a.lanes.items) (none : s.since.entries ≡ []) where
   -- with these moments
-  abbrev pub lobby_by : (moments : List ℕ) → Tells tells clock moments clock' → ServesBy moments s b ms → AreOver ms → ServesLobby tells a clock b clock'
+  abbrev pub lobby_by : (moments : List ℕ) → Tells tells clock moments clock' → ServesBy moments s b → AreOver b.lanes.items → ServesLobby tells (with_clock a.core clock) (with_clock b.core clock')
   lobby_by moments told x over = let t = x.after in record {
     since = t.since;
-    closed = λ n away. elim (cases_Bool (is_open b.state n)) [
+    closed = λ n away. elim (cases_Bool (is_open b.core.state n)) [
       | inl there ↦ elim (t.have_places n there) [
         | inl was ↦ absurd (false≢true (sym away ∙ was))
-        | inr (j, l, is, serial) ↦ absurd (false≢true (sym ((t.fits j l is).ends (over j l is).0) ∙ (ap (λ k. is_open b.state k) serial ∙ there)))
+        | inr (j, l, is, serial) ↦ absurd (false≢true (sym ((t.fits j l is).ends (over j l is).0) ∙ (ap (λ k. is_open b.core.state k) serial ∙ there)))
       ]
       | inr shut ↦ shut
     ];
     earlier = t.earlier;
-    time = time_of tells a a b clock clock' [] x.more t.since.entries moments (x.adds ∙ ap (λ (l : List Entry). l ++ x.more) none) (λ reported. refl) told x.timed;
+    time = time_of tells (with_clock a.core clock) (with_clock b.core clock') a.core.state [] x.more t.since.entries moments (x.adds ∙ ap (λ (l : List Entry). l ++ x.more) none) (λ reported. refl) told x.timed;
   }
-
-  pub serves_lobby : RunsBy tells a ls clock b ms clock' → AreOver ms → ServesLobby tells a clock b clock'
-  serves_lobby runs over = lobby_by runs.moments runs.told (runs.serves a s) over
 
 -- one note more was taken, or none
 pub noted_more : (first old new notes : List ℕ) (note : Option ℕ) → old ≡ first ++ notes → new ≡ old ++ option_to_list note → new ≡ first ++ (notes ++ option_to_list note)

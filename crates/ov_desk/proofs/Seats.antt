@@ -15,7 +15,7 @@ use Rattle.ov_workers.specs.declared.workers.Workers.{Workers}
 use Rattle.ov_sessions.specs.declared.session.Session.{Session}
 use Rattle.ov_lanes.specs.Opening.{AreSessions}
 use Rattle.ov_desk.proofs.Pairs.{threes_more, threes_ended, threes_lengths}
-use Rattle.ov_desk.specs.Seats.{HaveLink, AreWorkersOf, IsSeat, AreSeats, IsStarted, AreStarted, IsSeatOf}
+use Rattle.ov_desk.specs.Seats.{HaveLink, AreWorkersOf, IsSeat, ArePlaces, IsStarted, AreStarted, IsSeatOf}
 use Rattle.ov_desk.specs.declared.start.Started.{Started}
 
 -- ---- the ends of a ring of which one was used
@@ -43,11 +43,11 @@ module _ {S W L : Type 0} (keeps : Bool) where
   seat_stays (Some l) (Some m) None s seat = absurd seat
   seat_stays (Some l) (Some m) (Some w) s (a, link) = (workers_stay l m w s a, link)
 
-  pub seats_stay : (ls ms : List (Option Lane)) (ws : List (Option (Workers S W L))) → StayAs SameLane ls ms → AreSeats keeps ls ws → AreSeats keeps ms ws
+  pub seats_stay : (ls ms : List (Option Lane)) (ws : List (Option (Workers S W L))) → StayAs SameLane ls ms → ArePlaces keeps ls ws → ArePlaces keeps ms ws
   seats_stay ls ms ws s seats = record { many = seats.many ∙ sym s.many; each = λ at. seat_stays (get_or ls at None) (get_or ms at None) (get_or ws at None) (s.each at) (seats.each at) }
 
   -- one place has another session, or none
-  pub seats_set : (ls : List (Option Lane)) (ws : List (Option (Workers S W L))) (i : ℕ) (p : Option Lane) (w : Option (Workers S W L)) → i < length ls → IsSeat keeps p w → AreSeats keeps ls ws → AreSeats keeps (slice_set ls i p) (slice_set ws i w)
+  pub seats_set : (ls : List (Option Lane)) (ws : List (Option (Workers S W L))) (i : ℕ) (p : Option Lane) (w : Option (Workers S W L)) → i < length ls → IsSeat keeps p w → ArePlaces keeps ls ws → ArePlaces keeps (slice_set ls i p) (slice_set ws i w)
   seats_set ls ws i p w lt seat seats = record {
     many = length-set ws i w ∙ (seats.many ∙ sym (length-set ls i p));
     each = λ at. elim (cases_eq at i) [
@@ -72,10 +72,10 @@ module _ {S W L : Type 0} (keeps : Bool) where
   seat_none (Some m) None l is none seat = seat
   seat_none (Some m) (Some w) l is none seat = cc
 
-  pub seated_at : (ls : List (Option Lane)) (ws : List (Option (Workers S W L))) (i : ℕ) (l : Lane) (w : Workers S W L) → get_or ls i None ≡ Some l → get_or ws i None ≡ Some w → AreSeats keeps ls ws → AreWorkersOf keeps l w × ((k : Link S W) × HaveLink k w)
+  pub seated_at : (ls : List (Option Lane)) (ws : List (Option (Workers S W L))) (i : ℕ) (l : Lane) (w : Workers S W L) → get_or ls i None ≡ Some l → get_or ws i None ≡ Some w → ArePlaces keeps ls ws → AreWorkersOf keeps l w × ((k : Link S W) × HaveLink k w)
   seated_at ls ws i l w is is' seats = seat_some (get_or ls i None) (get_or ws i None) l w is is' (seats.each i)
 
-  pub seated_works : (ls : List (Option Lane)) (ws : List (Option (Workers S W L))) (i : ℕ) (l : Lane) → get_or ls i None ≡ Some l → get_or ws i None ≡ None → AreSeats keeps ls ws → ⊥
+  pub seated_works : (ls : List (Option Lane)) (ws : List (Option (Workers S W L))) (i : ℕ) (l : Lane) → get_or ls i None ≡ Some l → get_or ws i None ≡ None → ArePlaces keeps ls ws → ⊥
   seated_works ls ws i l is none seats = seat_none (get_or ls i None) (get_or ws i None) l is none (seats.each i)
 
 -- ---- what was started
@@ -101,7 +101,7 @@ module _ {S W L : Type 0} where
   seat_of : (k : Link S W) (p : Option Lane) (v : Option (Workers S W L)) → IsSeatOf k p v → IsSeat true p v
   seat_of k p v (l, is, w, is', a, link) = subst (λ q. IsSeat true q v) (sym is) (subst (λ u. IsSeat true (Some l) u) (sym is') (a, (k, link)))
 
-  pub seats_of : (ks : List (Link S W)) (ls : List (Option Lane)) (ws : List (Option (Workers S W L))) → Threewise IsSeatOf ks ls ws → AreSeats true ls ws
+  pub seats_of : (ks : List (Link S W)) (ls : List (Option Lane)) (ws : List (Option (Workers S W L))) → Threewise IsSeatOf ks ls ws → ArePlaces true ls ws
   seats_of [] [] [] t = record { many = refl; each = λ at. refl }
   seats_of [] [] (w ∷ ws) t = absurd t
   seats_of [] (p ∷ ls) ws t = absurd t
@@ -111,7 +111,7 @@ module _ {S W L : Type 0} where
       let r = seats_of ks ls ws t.1 in
       record { many = (let e = r.many in omega (arith, e)); each = at_each k ks p ls w ws t.0 r }
     where
-      at_each : (k : Link S W) (ks : List (Link S W)) (p : Option Lane) (ls : List (Option Lane)) (w : Option (Workers S W L)) (ws : List (Option (Workers S W L))) → IsSeatOf k p w → AreSeats true ls ws → (at : ℕ) → IsSeat true (get_or (p ∷ ls) at None) (get_or (w ∷ ws) at None)
+      at_each : (k : Link S W) (ks : List (Link S W)) (p : Option Lane) (ls : List (Option Lane)) (w : Option (Workers S W L)) (ws : List (Option (Workers S W L))) → IsSeatOf k p w → ArePlaces true ls ws → (at : ℕ) → IsSeat true (get_or (p ∷ ls) at None) (get_or (w ∷ ws) at None)
       at_each k ks p ls w ws s r zero = seat_of k p w s
       at_each k ks p ls w ws s r (suc at) = r.each at
 
@@ -180,7 +180,7 @@ pub seat_more : {S W L : Type 0} (first : ℕ) (front : List (Link S W)) (ls : L
 seat_more first front ls ws k l v news seats new works link = (news_more first ls l news new, threes_more IsSeatOf front ls ws k (Some l) (Some v) (l, refl, v, refl, works, link) seats)
 
 -- places in which there is nothing
-pub empty_seats : {S W L : Type 0} (keeps : Bool) (ls : List (Option Lane)) (ws : List (Option (Workers S W L))) → (length ls ≡ 64) × ((at : ℕ) → get_or ls at None ≡ None) → (length ws ≡ 64) × ((at : ℕ) → get_or ws at None ≡ None) → AreSeats keeps ls ws
+pub empty_seats : {S W L : Type 0} (keeps : Bool) (ls : List (Option Lane)) (ws : List (Option (Workers S W L))) → (length ls ≡ 64) × ((at : ℕ) → get_or ls at None ≡ None) → (length ws ≡ 64) × ((at : ℕ) → get_or ws at None ≡ None) → ArePlaces keeps ls ws
 empty_seats keeps ls ws a b = record {
   many = b.0 ∙ sym a.0;
   each = λ at. subst (λ p. IsSeat keeps p (get_or ws at None)) (sym (a.1 at)) (b.1 at);

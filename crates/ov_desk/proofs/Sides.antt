@@ -23,7 +23,8 @@ use Rattle.ov_history.specs.Entries.{cause_view}
 use Rattle.ov_lanes.specs.Courses.{Course}
 use Rattle.ov_lanes.specs.Fitting.{Items, brought, end_cause, is_of_reader, is_by_reader, Took, framed, FitsCourse}
 use Rattle.ov_lanes.proofs.Fitting.{knows_marked}
-use Rattle.ov_desk.specs.Outcome.{SuitsReader, SuitsWriter, Outcome}
+use Rattle.ov_desk.specs.LinkStates.{link_state}
+use Rattle.ov_desk.specs.Outcome.{SuitsReader, SuitsWriter, Finish, Outcome, account_of}
 use Rattle.ov_desk.specs.Ending.{is_written, CourseEnds}
 
 -- ---- the reader
@@ -151,6 +152,10 @@ module _ (frames : List (List ℕ)) (sink sink' : SinkState) (items known : List
 
 -- ---- both
 
+-- how a session ended of whose closing this is known
+abbrev finished : Option Cause → Bool → Finish
+finished known whole = record { why = cause_view (unwrap_or known Memory); is_whole = whole }
+
 module _ (c : Course) (known : Option Cause) (items rest put : Items) (sent taken coming : List Sent) (f : FitsCourse c known items sent true true) where
   closed : c.closed ≡ Some (cause_view (unwrap_or known Memory))
   closed = knows_marked c.closed known (f.opens ∙ ap not f.puts.0) f.knows
@@ -158,7 +163,7 @@ module _ (c : Course) (known : Option Cause) (items rest put : Items) (sent take
   pub comes_to : (source source' : SourceState) (sink sink' : SinkState) (end : ReadCause) (whole : Bool) → items ++ rest ≡ put → taken ++ coming ≡ sent
       → ReaderBrings end source source' put
       → Writes whole sink sink' taken
-      → Outcome c.closed c.asks c.handed (cause_view (unwrap_or known Memory)) whole source source' sink sink'
+      → Outcome (account_of c) (finished known whole) (link_state source sink) (link_state source' sink')
   comes_to source source' sink sink' end whole fifo fifo' reads writes =
       let r = read_side c.asks (cause_view (unwrap_or known Memory)) source source' items rest put (subst (λ (o : Option machine.Cause). Took o c.asks items) closed f.took) fifo end reads in
       let w = write_side f.puts.2.0 sink sink' taken coming (fifo' ∙ f.puts.2.1) whole writes in
@@ -195,13 +200,13 @@ module _ (c : Course) (known : Option Cause) (items rest put : Items) (sent take
       → ReaderBrings end source source' put
       → Writes (not failed) sink sink' taken
       → MatchBool failed (told ≡ WriteFault) (told ≡ unwrap_or known Memory)
-      → CourseEnds c told source source' sink sink'
+      → CourseEnds c told (link_state source sink) (link_state source' sink')
   ends_for source source' sink sink' end true told fifo fifo' reads writes is =
       let o = comes_to c known items rest put sent taken coming f source source' sink sink' end false fifo fifo' reads writes in
       record {
         why = cause_view (unwrap_or known Memory);
         told_for = λ whole. absurd (false≢true (sym (ap is_written is) ∙ whole));
-        comes_to = subst (λ (b : Bool). Outcome c.closed c.asks c.handed (cause_view (unwrap_or known Memory)) b source source' sink sink') (sym (ap is_written is)) o;
+        comes_to = subst (λ (b : Bool). Outcome (account_of c) (finished known b) (link_state source sink) (link_state source' sink')) (sym (ap is_written is)) o;
         none_left = f.puts.1;
       }
   ends_for source source' sink sink' end false told fifo fifo' reads writes is =
@@ -209,6 +214,6 @@ module _ (c : Course) (known : Option Cause) (items rest put : Items) (sent take
       record {
         why = cause_view (unwrap_or known Memory);
         told_for = λ whole. ap cause_view is;
-        comes_to = subst (λ (b : Bool). Outcome c.closed c.asks c.handed (cause_view (unwrap_or known Memory)) b source source' sink sink') (sym (ap is_written is ∙ written_for (unwrap_or known Memory) o.unfailed)) o;
+        comes_to = subst (λ (b : Bool). Outcome (account_of c) (finished known b) (link_state source sink) (link_state source' sink')) (sym (ap is_written is ∙ written_for (unwrap_or known Memory) o.unfailed)) o;
         none_left = f.puts.1;
       }

@@ -1,3 +1,5 @@
+pub mod LinkStates
+pub mod Timed
 pub mod Outcome
 pub mod Ending
 pub mod Ends
@@ -6,3 +8,4 @@ pub mod Serving
 pub mod Guests
 pub mod Admitting
 pub mod Opening
+pub mod Answering

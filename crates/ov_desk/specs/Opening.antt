@@ -4,22 +4,17 @@ use Rattle.std.specs.VecDeque.{deque_len, deque_capacity}
 use Rattle.ov_core.specs.Following.{CoreState}
 use Rattle.ov_lanes.specs.Opening.{AreSessions, OpensAll}
 use Rattle.ov_desk.specs.Seats.{AreStarted}
-use Rattle.ov_desk.specs.declared.links.Room.{Room}
 use Rattle.ov_desk.specs.declared.links.Opened.{Opened}
 
--- room for what is made of this many links
-pub record HasRoom {S W L : Type 0} (count : ℕ) (room : Room S W L) : Type 0 where
-  pub lanes : (room.lanes.items ≡ []) × (count ≤ vec_capacity room.lanes)
-  pub workers : (room.workers.items ≡ []) × (count ≤ vec_capacity room.workers)
-  pub ends : (room.ends.items ≡ []) × (count ≤ deque_capacity room.ends)
-
--- This many sessions were opened, and their workers were started.
+-- This many sessions were opened, their workers were started, and there is room for their lanes and for what remains of them.
 pub record IsOpened {K D S W L : Type 0} (count : ℕ) (old new : CoreState K D) (o : Opened S W L) : Type 0 where
   pub opens : OpensAll old old.state.next count new
   pub sessions : AreSessions old.state.next o.sessions.items
   pub started : AreStarted true old.state.next o.started.items
   pub many : (deque_len o.sessions ≡ count) × (deque_len o.started ≡ count)
-  pub room : HasRoom count o.room
+  pub lanes : (o.lanes.items ≡ []) × (count ≤ vec_capacity o.lanes)
+  pub workers : (o.workers.items ≡ []) × (count ≤ vec_capacity o.workers)
+  pub ends : (o.ends.items ≡ []) × (count ≤ deque_capacity o.ends)
 
 -- a list of this many places, in which there is nothing
 abbrev pub AreEmpty : {A : Type 0} → ℕ → List (Option A) → Type 0

@@ -8,7 +8,9 @@ use Rattle.ov_specs.specs.machine.Machine as machine
 use Rattle.ov_specs.specs.machine.History.{joined}
 use Rattle.ov_ends.specs.Ends.{one_more, KeepsInput, GivesWritten}
 use Rattle.ov_ends.specs.Writing.{WritesOf}
+use Rattle.ov_lanes.specs.Courses.{Course}
 use Rattle.ov_lanes.specs.Fitting.{is_of_reader, most_frames}
+use Rattle.ov_desk.specs.LinkStates.{LinkState}
 
 -- what the reader reports when its end closes the session: the input ended and its stream is whole; or a read failed; or its
 -- stream is damaged
@@ -25,23 +27,38 @@ abbrev pub SuitsWriter : Bool → SinkState → SinkState → Type 0
 SuitsWriter true sink sink' = (sink'.is_flushed ≡ true) × (sink'.faults ≡ sink.faults)
 SuitsWriter false sink sink' = sink'.faults ≡ one_more sink.faults
 
+-- what a history says of a session: why it was closed, if it was, the messages taken from it, and the frames sent to it
+pub record Account : Type 0 where
+  pub closed : Option machine.Cause
+  pub messages : List Message
+  pub sent : List (List ℕ)
+
+-- what the course of a session says of it, once all frames were handed out
+abbrev pub account_of : Course → Account
+account_of c = record { closed = c.closed; messages = c.asks; sent = c.handed }
+
+-- how a session ended: why it was closed, and whether all that was to be written was written, since no write failed
+pub record Finish : Type 0 where
+  pub why : machine.Cause
+  pub is_whole : Bool
+
 -- The session was closed for this cause. The messages taken from it are the first that its stream asks for, and all of them
 -- if its reader closed it. What was written are the first of the frames that were sent to it, and all of them if its reader
 -- closed it; or a beginning of that if a write failed. A session that did not take what was sent to it was sent more frames
 -- than its ring has room for.
-pub record Outcome (closed : Option machine.Cause) (messages : List Message) (sent : List (List ℕ)) (why : machine.Cause) (is_whole : Bool) (source source' : SourceState) (sink sink' : SinkState) : Type 0 where
-  pub closed_for : closed ≡ Some why
-  pub unfailed : why ≢ machine.WriteFault
+pub record Outcome (says : Account) (finish : Finish) (old new : LinkState) : Type 0 where
+  pub closed_for : says.closed ≡ Some finish.why
+  pub unfailed : finish.why ≢ machine.WriteFault
   pub stream : List ℕ
-  pub read : source'.read ≡ source.read ++ stream
-  pub asks : IsPrefix messages (asked stream).messages
-  pub all_asked : is_of_reader why ≡ true → messages ≡ (asked stream).messages
-  pub reader : SuitsReader why (asked stream).damaged source source'
-  pub input : KeepsInput source.read source.remaining source'.read source'.remaining
+  pub read : new.source.read ≡ old.source.read ++ stream
+  pub asks : IsPrefix says.messages (asked stream).messages
+  pub all_asked : is_of_reader finish.why ≡ true → says.messages ≡ (asked stream).messages
+  pub reader : SuitsReader finish.why (asked stream).damaged old.source new.source
+  pub input : KeepsInput old.source.read old.source.remaining new.source.read new.source.remaining
   pub frames : List (List ℕ)
-  pub sends : IsPrefix frames sent
-  pub all_sent : is_of_reader why ≡ true → frames ≡ sent
-  pub written : WritesOf is_whole (joined frames) sink.written sink'.written
-  pub writer : SuitsWriter is_whole sink sink'
-  pub given : GivesWritten sink.written sink.contents sink'.written sink'.contents
-  pub overrun : why ≡ machine.Overrun → most_frames < length sent
+  pub sends : IsPrefix frames says.sent
+  pub all_sent : is_of_reader finish.why ≡ true → frames ≡ says.sent
+  pub written : WritesOf finish.is_whole (joined frames) old.sink.written new.sink.written
+  pub writer : SuitsWriter finish.is_whole old.sink new.sink
+  pub given : GivesWritten old.sink.written old.sink.contents new.sink.written new.sink.contents
+  pub overrun : finish.why ≡ machine.Overrun → most_frames < length says.sent

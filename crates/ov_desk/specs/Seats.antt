@@ -4,6 +4,7 @@ use Rattle.rtrb.specs.Ring.{sent, received, known_free, IsPair}
 use Rattle.ov_lanes.specs.declared.lane.Lane.{Lane}
 use Rattle.ov_lanes.specs.declared.link.Link.{Link}
 use Rattle.ov_workers.specs.declared.workers.Workers.{Workers}
+use Rattle.ov_desk.specs.declared.hall.Hall.{Hall}
 use Rattle.ov_desk.specs.declared.start.Started.{Started}
 
 -- nothing was handed to the workers yet
@@ -28,10 +29,14 @@ IsSeat keeps None w = w ≡ None
 IsSeat keeps (Some l) None = ⊥
 IsSeat {S} {W} keeps (Some l) (Some w) = AreWorkersOf keeps l w × ((k : Link S W) × HaveLink k w)
 
--- so it is at each place
-pub record AreSeats {S W L : Type 0} (keeps : Bool) (ls : List (Option Lane)) (ws : List (Option (Workers S W L))) : Type 0 where
+-- so it is at each of these places
+pub record ArePlaces {S W L : Type 0} (keeps : Bool) (ls : List (Option Lane)) (ws : List (Option (Workers S W L))) : Type 0 where
   pub many : length ws ≡ length ls
   pub each : (at : ℕ) → IsSeat keeps (slice_index_or ls at None) (slice_index_or ws at None)
+
+-- and at each of a hall
+abbrev pub AreSeats : {K D S W L : Type 0} → Hall K D S W L → Type 0
+AreSeats hall = ArePlaces hall.keeps hall.desk.lanes.items hall.workers.items
 
 -- the workers of a session with this serial were started: nothing went through its rings
 pub record IsStarted {S W L : Type 0} (keeps : Bool) (serial : ℕ) (s : Started S W L) : Type 0 where

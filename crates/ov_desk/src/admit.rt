@@ -58,35 +58,29 @@ where
     L: Ledger,
     S: Source + Drop,
     W: Sink + Drop,
-    requires seats { AreSeats hall.old.keeps hall.old.desk.lanes.items hall.old.workers.items }
+    requires seats { AreSeats hall.old }
     requires place { (at < vec_len hall.old.desk.lanes)
         × (slice_index_or hall.old.desk.lanes.items at None ≡ None) }
     requires started { IsStarted hall.old.keeps hall.old.desk.core.state.next started }
-    ensures goes { (moment : ℕ)
-        → GoesOn moment hall.old.desk.core hall.old.desk.lanes.items hall.new.desk.core
-        hall.new.desk.lanes.items }
+    ensures goes { (moment : ℕ) → GoesOn moment hall.old.desk hall.new.desk }
     ensures answer { (bells parts : ℕ)
-        → Admits bells parts hall.old.desk.core hall.old.desk.lanes.items result hall.new.desk.core
-        hall.new.desk.lanes.items }
-    ensures seats { AreSeats hall.new.keeps hall.new.desk.lanes.items hall.new.workers.items }
+        → Admits bells parts hall.old.desk result hall.new.desk }
+    ensures seats { AreSeats hall.new }
     ensures honest { K.is_honest hall.new.desk.core.keeper → K.is_honest hall.old.desk.core.keeper }
 {
-    let Started {
-        inbound,
-        outbound,
-        workers,
-    } = started;
-    let session = match hall.desk.core.open_session() {
-        Ok(session) => session,
+    let mut workers = started.workers;
+    match hall.desk.core.open_session() {
+        Ok(session) => {
+            workers.hand(link.reader, link.writer);
+            let lane = Lane::new(session, started.inbound, started.outbound);
+            hall.seat(at, lane, workers);
+            Admitted::Opened
+        }
         Err(fault) => {
             workers.dismiss(rt);
-            return Admitted::Refused(AdmitFault::Machine(fault));
+            Admitted::Refused(AdmitFault::Machine(fault))
         }
-    };
-    let mut workers = workers;
-    workers.hand(link.reader, link.writer);
-    hall.seat(at, Lane::new(session, inbound, outbound), workers);
-    Admitted::Opened
+    }
 }
 
 /// Serves the link as a session, at a free place. Closes both of its ends if there is none, or if a part of the ledger, a
@@ -106,13 +100,11 @@ where
     G: Gate + Sync,
     S: Source + Send + Drop + 's,
     W: Sink + Send + Drop + 's,
-    requires seats { AreSeats hall.old.keeps hall.old.desk.lanes.items hall.old.workers.items }
-    ensures goes { (moment : ℕ)
-        → GoesOn moment hall.old.desk.core hall.old.desk.lanes.items hall.new.desk.core
-        hall.new.desk.lanes.items }
-    ensures answer { Admits (vec_len bells.now) hall.old.parts.left hall.old.desk.core
-        hall.old.desk.lanes.items result hall.new.desk.core hall.new.desk.lanes.items }
-    ensures seats { AreSeats hall.new.keeps hall.new.desk.lanes.items hall.new.workers.items }
+    requires seats { AreSeats hall.old }
+    ensures goes { (moment : ℕ) → GoesOn moment hall.old.desk hall.new.desk }
+    ensures answer { Admits (vec_len bells.now) hall.old.parts.left hall.old.desk result
+        hall.new.desk }
+    ensures seats { AreSeats hall.new }
     ensures honest { K.is_honest hall.new.desk.core.keeper → K.is_honest hall.old.desk.core.keeper }
 {
     let Some(at) = free_place(&hall.desk.lanes) else {

@@ -1,23 +1,21 @@
 ghost use Rattle.std.specs.Prelude.{◌≡◌, ◌≤◌, List, [], Bool, true, vec_len, unwrap_or, MatchBool};
 ghost use Rattle.std.specs.VecDeque.{deque_capacity};
-ghost use Rattle.rtrb.specs.Ring.{sent, received};
-ghost use Rattle.ov_ends.specs.States.{source_of, sink_of};
 ghost use Rattle.ov_history.specs.declared.event.Cause.TheVariants.{WriteFault, Memory};
 ghost use Rattle.ov_lanes.specs.Courses.{Course};
-ghost use Rattle.ov_lanes.specs.Fitting.{FitsCourse};
-ghost use Rattle.ov_lanes.specs.Lanes.{AreOver};
+ghost use Rattle.ov_lanes.specs.Lanes.{AreOver, FitsLane};
 ghost use Rattle.ov_lanes.specs.Pairs.{Threewise};
 ghost use Rattle.ov_lanes.specs.declared.link.Link.{Link as SpecLink};
 ghost use Rattle.ov_workers.specs.Handing.{kept};
 ghost use Rattle.ov_desk.specs.Ending.{CourseEnds};
-ghost use Rattle.ov_desk.specs.Ends.{EndsSeat};
+ghost use Rattle.ov_desk.specs.Ends.{EndsLane, EndsSeat};
+ghost use Rattle.ov_desk.specs.LinkStates.{ends_of};
 ghost use Rattle.ov_desk.specs.Seats.{AreWorkersOf, HaveLink, IsSeatOf};
 
 use crate::link::End;
 use ov_core::Cause;
 use ov_ends::{Sink, Source};
 use ov_lanes::Lane;
-use ov_workers::{ReadLeft, Workers, WriteLeft};
+use ov_workers::Workers;
 use std::collections::VecDeque;
 use std::snapshot::Snapshot;
 use std::sync::Wait;
@@ -64,49 +62,26 @@ where
     requires workers { (keeps : Bool) × AreWorkersOf keeps lane workers }
     requires link { (k : SpecLink S W) × HaveLink k workers }
     requires over { (lane.ended ≡ true) × (lane.marked ≡ true) }
-    ensures ends { (k : SpecLink S W) → HaveLink k workers
-        → (c : Course)
-        → FitsCourse c lane.cause (received lane.inbound) (sent lane.outbound) lane.marked
-        lane.ended
-        → CourseEnds c result.cause (source_of S.Source k.reader)
-        (source_of S.Source result.last_reader.value)
-        (sink_of W.Sink k.writer)
-        (sink_of W.Sink result.last_writer.value) }
+    ensures ends { (k : SpecLink S W) → HaveLink k workers → (c : Course) → FitsLane c lane
+        → CourseEnds c result.cause (ends_of S.Source W.Sink k.reader k.writer)
+        (ends_of S.Source W.Sink result.last_reader.value result.last_writer.value) }
     ensures keep { (keeps : Bool) → AreWorkersOf keeps lane workers
         → (result.reader ≡ kept keeps result.last_reader.value)
         × (result.writer ≡ kept keeps result.last_writer.value) }
 {
-    let Lane {
-        inbound,
-        outbound,
-        cause,
-        ..
-    } = lane;
     let (read, wrote) = workers.join(rt);
-    let ReadLeft {
-        reader,
-        last: last_reader,
-        inlet,
-        ..
-    } = read;
-    let mut inlet = inlet;
-    let mut inbound = inbound;
+    let mut inlet = read.inlet;
+    let mut inbound = lane.inbound;
     inbound.slots_beside(&mut inlet.ring);
-    let WriteLeft {
-        writer,
-        last: last_writer,
-        ring,
-        failed,
-    } = wrote;
-    let mut ring = ring;
-    let mut outbound = outbound;
+    let mut ring = wrote.ring;
+    let mut outbound = lane.outbound;
     ring.slots_beside(&mut outbound);
     Joined {
-        reader,
-        last_reader,
-        writer,
-        last_writer,
-        cause: told(failed, cause),
+        reader: read.reader,
+        last_reader: read.last,
+        writer: wrote.writer,
+        last_writer: wrote.last,
+        cause: told(wrote.failed, lane.cause),
     }
 }
 
@@ -120,13 +95,8 @@ where
     requires workers { AreWorkersOf true lane workers }
     requires link { (k : SpecLink S W) × HaveLink k workers }
     requires over { (lane.ended ≡ true) × (lane.marked ≡ true) }
-    ensures ends { (k : SpecLink S W) → HaveLink k workers
-        → (c : Course)
-        → FitsCourse c lane.cause (received lane.inbound) (sent lane.outbound) lane.marked
-        lane.ended
-        → CourseEnds c result.cause (source_of S.Source k.reader) (source_of S.Source result.reader)
-        (sink_of W.Sink k.writer) (sink_of W.Sink result.writer) }
-    ensures serial { result.serial ≡ lane.session.serial }
+    ensures { (k : SpecLink S W) → HaveLink k workers
+        → EndsLane (ends_of S.Source W.Sink) k lane result }
 {
     let serial = lane.session.serial;
     let Joined {
@@ -163,8 +133,8 @@ where
     requires seats { (links : List (SpecLink S W))
         × Threewise IsSeatOf links lanes.items workers.items }
     ensures { (links : List (SpecLink S W)) → Threewise IsSeatOf links lanes.items workers.items
-        → Threewise (λ k p e. EndsSeat (source_of S.Source) (sink_of W.Sink) k p e) links
-        lanes.items result.items }
+        → Threewise (λ k p e. EndsSeat (ends_of S.Source W.Sink) k p e) links lanes.items
+        result.items }
 {
     let mut lanes = lanes;
     let mut workers = workers;

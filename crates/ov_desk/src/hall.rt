@@ -1,10 +1,9 @@
-ghost use Rattle.std.specs.Prelude.{◌≡◌, ◌<◌, ℕ, None, Some, true, slice_index_or, slice_set};
-ghost use Rattle.std.specs.Prelude.{vec_len};
-ghost use Rattle.ov_ends.specs.States.{source_of, sink_of};
-ghost use Rattle.ov_lanes.specs.Lanes.{AreOver, GoesOn, IsAt, StayAs, StaysAs};
+ghost use Rattle.std.specs.Prelude.{◌≡◌, ◌<◌, None, Some, true, slice_index_or, slice_set, vec_len};
+ghost use Rattle.ov_lanes.specs.Lanes.{AreOver, IsAt, StayAs};
 ghost use Rattle.ov_lanes.specs.declared.lane.Lane.{Lane as SpecLane};
 ghost use Rattle.ov_lanes.specs.declared.link.Link.{Link as SpecLink};
-ghost use Rattle.ov_desk.specs.Guests.{HaveLeft, StayOrLeave};
+ghost use Rattle.ov_desk.specs.Guests.{HaveLeft, IsKept, TendsHall};
+ghost use Rattle.ov_desk.specs.LinkStates.{ends_of};
 ghost use Rattle.ov_desk.specs.Seats.{AreSeats, AreWorkersOf, HaveLink};
 ghost use Rattle.ov_desk.specs.Serving.{IsTended};
 
@@ -60,27 +59,17 @@ fn tend_lane<R: Wait>(rt: &R, bell: &Bell, lane: &mut Lane) -> bool
 }
 
 /// The same for the session at a place; false if there is none.
-fn tend_place<R: Wait>(rt: &R, bell: &Bell, place: &mut Option<Lane>) -> bool
-    ensures tended { StaysAs IsTended place.old place.new }
-    ensures over { result ≡ true
-        → (lane : SpecLane) × (place.new ≡ Some lane) × (lane.ended ≡ true) × (lane.marked ≡ true) }
-{
-    match place {
-        Some(lane) => tend_lane(rt, bell, lane),
-        None => false,
-    }
-}
-
-/// The same for the place of this number.
 fn tend_lane_at<R: Wait>(rt: &R, bell: &Bell, lanes: &mut Vec<Option<Lane>>, at: usize) -> bool
     requires { at < vec_len lanes.old }
     ensures tended { StayAs IsTended lanes.old.items lanes.new.items }
     ensures over { result ≡ true
-        → (lane : SpecLane) × (slice_index_or lanes.new.items at None ≡ Some lane)
-        × (lane.ended ≡ true) × (lane.marked ≡ true) }
+        → (lane : SpecLane) × IsAt lanes.new.items at lane × (lane.ended ≡ true)
+        × (lane.marked ≡ true) }
 {
-    let place = &mut lanes[at];
-    tend_place(rt, bell, place)
+    match &mut lanes[at] {
+        Some(lane) => tend_lane(rt, bell, lane),
+        None => false,
+    }
 }
 
 impl<K, D, S, W, L> Hall<K, D, S, W, L>
@@ -93,7 +82,7 @@ where
 {
     /// Gives a session a free place.
     pub fn seat(&mut self, at: usize, lane: Lane, workers: Workers<S, W, L>)
-        requires seats { AreSeats self.old.keeps self.old.desk.lanes.items self.old.workers.items }
+        requires seats { AreSeats self.old }
         requires place { at < vec_len self.old.desk.lanes }
         requires workers { AreWorkersOf self.old.keeps lane workers }
         requires link { (k : SpecLink S W) × HaveLink k workers }
@@ -101,7 +90,7 @@ where
             ≡ slice_set self.old.desk.lanes.items at (Some lane) }
         ensures same { (self.new.desk.core ≡ self.old.desk.core)
             × (self.new.keeps ≡ self.old.keeps) }
-        ensures seats { AreSeats self.new.keeps self.new.desk.lanes.items self.new.workers.items }
+        ensures seats { AreSeats self.new }
     {
         self.desk.lanes[at] = Some(lane);
         self.workers[at] = Some(workers);
@@ -109,20 +98,12 @@ where
 
     /// Frees a place. If a session that is over is there, joins its workers.
     fn leave<R: Threads + Wait>(&mut self, rt: &R, at: usize)
-        requires seats { AreSeats self.old.keeps self.old.desk.lanes.items self.old.workers.items }
+        requires seats { AreSeats self.old }
         requires place { at < vec_len self.old.desk.lanes }
         requires over { (lane : SpecLane) → IsAt self.old.desk.lanes.items at lane
             → (lane.ended ≡ true) × (lane.marked ≡ true) }
-        ensures many { vec_len self.new.desk.lanes ≡ vec_len self.old.desk.lanes }
-        ensures goes { (moment : ℕ)
-            → GoesOn moment self.old.desk.core self.old.desk.lanes.items self.new.desk.core
-            self.new.desk.lanes.items }
-        ensures leaves { StayOrLeave IsTended (source_of S.Source) (sink_of W.Sink)
-            self.old.desk.lanes.items self.new.desk.lanes.items }
+        ensures leaves { TendsHall (ends_of S.Source W.Sink) self.old self.new }
         ensures free { self.new.desk.lanes.items ≡ slice_set self.old.desk.lanes.items at None }
-        ensures same { (self.new.keeps ≡ self.old.keeps) × (self.new.accepted ≡ self.old.accepted) }
-        ensures seats { AreSeats self.new.keeps self.new.desk.lanes.items self.new.workers.items }
-        ensures core { self.new.desk.core ≡ self.old.desk.core }
     {
         let place = take_out(&mut self.desk.lanes, at);
         let seat = take_out(&mut self.workers, at);
@@ -136,20 +117,10 @@ where
     /// Rings the bell of the writer at a place if something was put for it. Unless the places are kept, frees the place if its
     /// session has left.
     fn tend_at<R: Threads + Wait>(&mut self, rt: &R, bells: &Vec<Bell>, at: usize)
-        requires seats { AreSeats self.old.keeps self.old.desk.lanes.items self.old.workers.items }
+        requires seats { AreSeats self.old }
         requires place { at < vec_len self.old.desk.lanes }
-        ensures many { vec_len self.new.desk.lanes ≡ vec_len self.old.desk.lanes }
-        ensures goes { (moment : ℕ)
-            → GoesOn moment self.old.desk.core self.old.desk.lanes.items self.new.desk.core
-            self.new.desk.lanes.items }
-        ensures leaves { StayOrLeave IsTended (source_of S.Source) (sink_of W.Sink)
-            self.old.desk.lanes.items self.new.desk.lanes.items }
-        ensures same { (self.new.keeps ≡ self.old.keeps) × (self.new.accepted ≡ self.old.accepted) }
-        ensures kept { self.old.keeps ≡ true
-            → StayAs IsTended self.old.desk.lanes.items self.new.desk.lanes.items
-            × (self.new.workers ≡ self.old.workers) }
-        ensures seats { AreSeats self.new.keeps self.new.desk.lanes.items self.new.workers.items }
-        ensures core { self.new.desk.core ≡ self.old.desk.core }
+        ensures tends { TendsHall (ends_of S.Source W.Sink) self.old self.new }
+        ensures kept { IsKept self.old self.new }
     {
         let Some(bell) = bells.get(at) else {
             return;
@@ -163,18 +134,9 @@ where
     /// Rings the bells of all writers for which something was put. Unless the places are kept, frees those whose sessions have
     /// left.
     pub fn tend<R: Threads + Wait>(&mut self, rt: &R, bells: &Vec<Bell>)
-        requires seats { AreSeats self.old.keeps self.old.desk.lanes.items self.old.workers.items }
-        ensures goes { (moment : ℕ)
-            → GoesOn moment self.old.desk.core self.old.desk.lanes.items self.new.desk.core
-            self.new.desk.lanes.items }
-        ensures leaves { StayOrLeave IsTended (source_of S.Source) (sink_of W.Sink)
-            self.old.desk.lanes.items self.new.desk.lanes.items }
-        ensures same { (self.new.keeps ≡ self.old.keeps) × (self.new.accepted ≡ self.old.accepted) }
-        ensures kept { self.old.keeps ≡ true
-            → StayAs IsTended self.old.desk.lanes.items self.new.desk.lanes.items
-            × (self.new.workers ≡ self.old.workers) }
-        ensures seats { AreSeats self.new.keeps self.new.desk.lanes.items self.new.workers.items }
-        ensures core { self.new.desk.core ≡ self.old.desk.core }
+        requires seats { AreSeats self.old }
+        ensures tends { TendsHall (ends_of S.Source W.Sink) self.old self.new }
+        ensures kept { IsKept self.old self.new }
     {
         for at in 0..self.desk.lanes.len() {
             self.tend_at(rt, bells, at);
@@ -183,9 +145,9 @@ where
 
     /// Frees the places of all sessions, which are over, and joins their workers.
     pub fn leave_all<R: Threads + Wait>(&mut self, rt: &R)
-        requires seats { AreSeats self.old.keeps self.old.desk.lanes.items self.old.workers.items }
+        requires seats { AreSeats self.old }
         requires over { AreOver self.old.desk.lanes.items }
-        ensures left { HaveLeft (source_of S.Source) (sink_of W.Sink) self.old.desk.lanes.items }
+        ensures left { HaveLeft (ends_of S.Source W.Sink) self.old.desk.lanes.items }
         ensures core { self.new.desk.core ≡ self.old.desk.core }
     {
         for place in 0..self.desk.lanes.len() {

@@ -1,15 +1,17 @@
 ghost use Rattle.std.specs.Prelude.{◌≡◌, ◌≤◌, ◌-◌, ◌^◌, ℕ, [], true, vec_len, vec_capacity, IfOk};
-ghost use Rattle.std.specs.Prelude.{IfErr, OnErr};
+ghost use Rattle.std.specs.Prelude.{IfErr};
 ghost use Rattle.ov_core.specs.Following.{CoreState};
 ghost use Rattle.std.specs.VecDeque.{deque_len};
-ghost use Rattle.ov_ends.specs.States.{source_of, sink_of};
 ghost use Rattle.ov_lanes.specs.Lanes.{AreNewLanes};
 ghost use Rattle.ov_lanes.specs.Opening.{AreSessions};
 ghost use Rattle.ov_lanes.specs.Pairs.{Threewise};
 ghost use Rattle.ov_lanes.specs.Places.{has_places};
-ghost use Rattle.ov_desk.specs.Opening.{HasRoom, IsOpened};
+ghost use Rattle.ov_desk.specs.Answering.{AnswersLinks, to_serve};
+ghost use Rattle.ov_desk.specs.LinkStates.{ends_of};
+ghost use Rattle.ov_desk.specs.Opening.{IsOpened};
 ghost use Rattle.ov_desk.specs.Seats.{AreStarted, IsSeatOf};
 ghost use Rattle.ov_desk.specs.Serving.{RefusesLinks, ServesAll};
+ghost use Rattle.ov_desk.specs.Timed.{with_clock};
 
 use crate::finish::finish_all;
 use crate::hall::Hall;
@@ -36,40 +38,19 @@ use std::thread::{Scope, Threads};
 /// How many parts the ledger of notes has. Each worker that notes takes one, and one is left.
 pub(crate) const SHARES: u64 = u64::MAX;
 
-/// Room for the sessions of a number of links, and for what remains of them.
-#[derive(Drop)]
-pub(crate) struct Room<S: Source, W: Sink, L: Ledger> {
-    /// For a lane of each.
-    pub lanes: Vec<Option<Lane>>,
-    /// For the workers of each.
-    pub workers: Vec<Option<Workers<S, W, L>>>,
-    /// For what remains of each.
-    pub ends: VecDeque<End<S, W>>,
-}
-
-/// Allocates it.
-fn room_for<S: Source + Drop, W: Sink + Drop, L: Ledger>(
-    alloc: Global,
-    count: usize,
-) -> Result<Room<S, W, L>, AllocError>
-    ensures { IfOk result (λ room. HasRoom count room) }
-{
-    Ok(Room {
-        lanes: Vec::with_capacity(alloc, count)?,
-        workers: Vec::with_capacity(alloc, count)?,
-        ends: VecDeque::with_capacity(alloc, count)?,
-    })
-}
-
-/// Sessions that were opened and the workers that were started for them, with room for the rest.
+/// Sessions that were opened and the workers that were started for them, with room for what becomes of them.
 #[derive(Drop)]
 pub(crate) struct Opened<S: Source, W: Sink, L: Ledger> {
     /// The workers, to which nothing was handed yet.
     pub started: VecDeque<Started<S, W, L>>,
     /// The sessions, in the same order.
     pub sessions: VecDeque<Session>,
-    /// Room for the rest.
-    pub room: Room<S, W, L>,
+    /// Room for a lane of each.
+    pub lanes: Vec<Option<Lane>>,
+    /// For the workers of each.
+    pub workers: Vec<Option<Workers<S, W, L>>>,
+    /// For what remains of each link.
+    pub ends: VecDeque<End<S, W>>,
     /// The parts for further workers that note.
     pub parts: Parts<L>,
 }
@@ -99,7 +80,9 @@ where
     ensures honest { K.is_honest core.new.keeper → K.is_honest core.old.keeper }
 {
     shows_nothing_opened(core);
-    let room = room_for(common.alloc, bells.len())?;
+    let lanes = Vec::with_capacity(common.alloc, bells.len())?;
+    let workers = Vec::with_capacity(common.alloc, bells.len())?;
+    let ends = VecDeque::with_capacity(common.alloc, bells.len())?;
     let first = core.next_serial().unwrap_or(0);
     let mut parts = parts;
     let started = start_all(common, scope, bells, &mut parts, first)?;
@@ -110,7 +93,9 @@ where
     Ok(Opened {
         started,
         sessions,
-        room,
+        lanes,
+        workers,
+        ends,
         parts,
     })
 }
@@ -143,13 +128,9 @@ where
         let (Some(one), Some(session)) = (started.pop_front(), sessions.pop_front()) else {
             unreachable!()
         };
-        let Started {
-            inbound,
-            outbound,
-            workers: mut pair,
-        } = one;
+        let mut pair = one.workers;
         pair.hand(link.reader, link.writer);
-        lanes.push_reserved(Some(Lane::new(session, inbound, outbound)));
+        lanes.push_reserved(Some(Lane::new(session, one.inbound, one.outbound)));
         workers.push_reserved(Some(pair));
     }
 }
@@ -175,36 +156,32 @@ where
     C: Clock,
     requires { (old : CoreState K D) × IsOpened (deque_len links) old core opened }
     ensures served { (old : CoreState K D) → IsOpened (deque_len links) old core opened
-        → ServesAll (source_of S.Source) (sink_of W.Sink) C.tells old clock.old result.desk.core
-        clock.new links.items result.ends.items }
+        → ServesAll (ends_of S.Source W.Sink) C.tells (with_clock old clock.old)
+        (with_clock result.desk.core clock.new) links.items result.ends.items }
     ensures honest { K.is_honest result.desk.core.keeper → K.is_honest core.keeper }
 {
-    let Opened {
-        started,
-        sessions,
-        room,
-        parts,
-    } = opened;
-    let Room {
-        mut lanes,
-        mut workers,
-        ends,
-    } = room;
-    seat_all(started, sessions, links, &mut lanes, &mut workers);
+    let mut lanes = opened.lanes;
+    let mut workers = opened.workers;
+    seat_all(
+        opened.started,
+        opened.sessions,
+        links,
+        &mut lanes,
+        &mut workers,
+    );
     common.order.lock(common.rt).begin(true);
     common.order.wake();
     let mut hall = Hall {
         desk: Desk { core, lanes },
         workers,
         accepted: None,
-        parts,
+        parts: opened.parts,
         keeps: true,
     };
     run(common, scope, bells, &mut hall, &mut Taken::new(), clock);
-    let Hall { desk, workers, .. } = hall;
-    let Desk { core, lanes } = desk;
-    let ends = finish_all(common.rt, lanes, workers, ends);
-    let desk = Desk::new(common.alloc, core);
+    let served = hall.desk;
+    let ends = finish_all(common.rt, served.lanes, hall.workers, opened.ends);
+    let desk = Desk::new(common.alloc, served.core);
     Served { desk, ends }
 }
 
@@ -230,15 +207,8 @@ where
     requires bells { vec_len bells.now ≡ deque_len links }
     requires places { has_places (deque_len links) core.state ≡ true }
     requires parts { deque_len links ≤ parts.left }
-    ensures served { IfOk result
-        (λ s. ServesAll (source_of S.Source) (sink_of W.Sink) C.tells core clock.old s.desk.core
-        clock.new links.items s.ends.items) }
-    ensures refused { IfErr result (λ r. RefusesLinks (deque_len links) core r.fault r.desk.core
-        × (r.links.items ≡ links.items)) }
-    ensures untouched { OnErr result (clock.new ≡ clock.old) }
-    ensures honest { IfOk result (λ s. K.is_honest s.desk.core.keeper → K.is_honest core.keeper) }
-    ensures honest_refused { IfErr result (λ r. K.is_honest r.desk.core.keeper
-        → K.is_honest core.keeper) }
+    ensures { AnswersLinks (ends_of S.Source W.Sink) C.tells K.is_honest
+        (to_serve core clock.old links.items) result clock.new }
 {
     let (served, _clock) = thread::scope(
         thread::scope_env(),
@@ -247,18 +217,9 @@ where
             requires bells { vec_len bells.now ≡ deque_len links }
             requires places { has_places (deque_len links) core.state ≡ true }
             requires parts { deque_len links ≤ parts.left }
-            ensures served { IfOk result.0
-                (λ s. ServesAll (source_of S.Source) (sink_of W.Sink) C.tells core clock.entry.now
-                s.desk.core result.1.now links.items s.ends.items) }
-            ensures refused { IfErr result.0
-                (λ r. RefusesLinks (deque_len links) core r.fault r.desk.core
-                × (r.links.items ≡ links.items)) }
-            ensures untouched { OnErr result.0 (result.1.now ≡ clock.entry.now) }
+            ensures answers { AnswersLinks (ends_of S.Source W.Sink) C.tells K.is_honest
+                (to_serve core clock.entry.now links.items) result.0 result.1.now }
             ensures same_clock { result.1.ghost_name ≡ clock.entry.ghost_name }
-            ensures honest { IfOk result.0 (λ s. K.is_honest s.desk.core.keeper
-                → K.is_honest core.keeper) }
-            ensures honest_refused { IfErr result.0 (λ r. K.is_honest r.desk.core.keeper
-                → K.is_honest core.keeper) }
         {
             let mut core = core;
             match open_all(common, scope, bells, &mut core, parts) {
@@ -309,15 +270,8 @@ where
     requires name { blank.name ≡ L.name }
     requires parts { (blank.parts ≡ L.parts) × (blank.parts ≡ 2 ^ 64 - 1) }
     requires places { has_places (deque_len links) core.state ≡ true }
-    ensures served { IfOk result
-        (λ s. ServesAll (source_of S.Source) (sink_of W.Sink) C.tells core clock.old s.desk.core
-        clock.new links.items s.ends.items) }
-    ensures refused { IfErr result (λ r. RefusesLinks (deque_len links) core r.fault r.desk.core
-        × (r.links.items ≡ links.items)) }
-    ensures untouched { OnErr result (clock.new ≡ clock.old) }
-    ensures honest { IfOk result (λ s. K.is_honest s.desk.core.keeper → K.is_honest core.keeper) }
-    ensures honest_refused { IfErr result (λ r. K.is_honest r.desk.core.keeper
-        → K.is_honest core.keeper) }
+    ensures { AnswersLinks (ends_of S.Source W.Sink) C.tells K.is_honest
+        (to_serve core clock.old links.items) result clock.new }
 {
     let (book, all) = blank.open::<L>();
     let (Ok(order), Ok(bells)) = (Order::new(alloc, book), all_bells(alloc, links.len())) else {
@@ -377,17 +331,8 @@ where
     S: Source + Send + Drop,
     W: Sink + Send + Drop,
     C: Clock,
-    ensures served { IfOk result
-        (λ s. ServesAll (source_of S.Source) (sink_of W.Sink) C.tells desk.core clock.old
-        s.desk.core clock.new links.items s.ends.items) }
-    ensures refused { IfErr result
-        (λ r. RefusesLinks (deque_len links) desk.core r.fault r.desk.core
-        × (r.links.items ≡ links.items)) }
-    ensures untouched { OnErr result (clock.new ≡ clock.old) }
-    ensures honest { IfOk result (λ s. K.is_honest s.desk.core.keeper
-        → K.is_honest desk.core.keeper) }
-    ensures honest_refused { IfErr result (λ r. K.is_honest r.desk.core.keeper
-        → K.is_honest desk.core.keeper) }
+    ensures { AnswersLinks (ends_of S.Source W.Sink) C.tells K.is_honest
+        (to_serve desk.core clock.old links.items) result clock.new }
 {
     let core = desk.into_core();
     if !has_places(&core, links.len()) {

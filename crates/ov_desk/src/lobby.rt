@@ -1,11 +1,9 @@
-ghost use Rattle.std.specs.Prelude.{◌≡◌, ◌⊎◌, ◌-◌, ◌^◌, [], IfOk, IfErr, OnErr};
-ghost use Rattle.ov_ends.specs.States.{source_of, sink_of};
-ghost use Rattle.ov_lanes.specs.declared.fault.ServeFault.TheVariants as serve_fault;
+ghost use Rattle.std.specs.Prelude.{◌≡◌, ◌-◌, ◌^◌, [], IfOk};
 ghost use Rattle.ov_lanes.specs.Lanes.{AreFree, Serves};
-ghost use Rattle.ov_desk.specs.Guests.{ServesGuests};
+ghost use Rattle.ov_desk.specs.Answering.{AnswersLobby, to_serve};
+ghost use Rattle.ov_desk.specs.LinkStates.{ends_of};
 ghost use Rattle.ov_desk.specs.Opening.{AreEmpty};
 ghost use Rattle.ov_desk.specs.Seats.{AreSeats};
-ghost use Rattle.ov_desk.specs.Serving.{ServesLobby};
 
 use crate::accept::{Accepted, LOBBY, accept_worker};
 use crate::fault::RefusedLobby;
@@ -131,18 +129,9 @@ where
     T: Listen<S, W> + Send + Drop + 's,
     C: Clock,
     requires free { AreFree hall.desk.lanes.items }
-    requires seats { AreSeats hall.keeps hall.desk.lanes.items hall.workers.items }
-    ensures served { IfOk result
-        (λ desk. ServesLobby C.tells hall.desk.core clock.old desk.core clock.new) }
-    ensures guests { IfOk result
-        (λ desk. ServesGuests (source_of S.Source) (sink_of W.Sink) C.tells hall.desk.core clock.old
-        desk.core clock.new) }
-    ensures refused { IfErr result (λ r. (r.desk.core ≡ hall.desk.core)
-        × (r.listener ≡ door.listener)) }
-    ensures fault { IfErr result (λ r. r.fault ≡ serve_fault.Threads) }
-    ensures untouched { OnErr result (clock.new ≡ clock.old) }
-    ensures honest { IfOk result (λ d. K.is_honest d.core.keeper
-        → K.is_honest hall.desk.core.keeper) }
+    requires seats { AreSeats hall }
+    ensures { AnswersLobby (ends_of S.Source W.Sink) C.tells K.is_honest
+        (to_serve hall.desk.core clock.old door.listener) result clock.new }
 {
     let Door {
         listener,
@@ -151,17 +140,14 @@ where
         noter,
     } = door;
     let mut hall = hall;
-    let HandRing {
-        mut to_worker,
-        from_desk,
-    } = hand;
+    let from_desk = hand.from_desk;
+    let mut to_worker = hand.to_worker;
     shows_none_served(&hall.desk);
     let job = move || accept_worker(common, from_desk, ring, noter);
     let Ok(accepting) = scope.spawn(job) else {
-        let Hall { desk, .. } = hall;
         return Err(RefusedLobby {
             fault: ServeFault::Threads,
-            desk,
+            desk: hall.desk,
             listener,
         });
     };
@@ -171,8 +157,7 @@ where
     run(common, scope, bells, &mut hall, &mut Taken::new(), clock);
     hall.leave_all(common.rt);
     accepting.join(common.rt);
-    let Hall { desk, .. } = hall;
-    Ok(desk)
+    Ok(hall.desk)
 }
 
 /// The same, in a scope of threads. The scope gives the clock back, so that its contract can name it.
@@ -194,38 +179,19 @@ where
     T: Listen<S, W> + Send + Drop,
     C: Clock,
     requires free { AreFree hall.desk.lanes.items }
-    requires seats { AreSeats hall.keeps hall.desk.lanes.items hall.workers.items }
-    ensures served { IfOk result
-        (λ desk. ServesLobby C.tells hall.desk.core clock.old desk.core clock.new) }
-    ensures guests { IfOk result
-        (λ desk. ServesGuests (source_of S.Source) (sink_of W.Sink) C.tells hall.desk.core clock.old
-        desk.core clock.new) }
-    ensures refused { IfErr result (λ r. (r.desk.core ≡ hall.desk.core)
-        × (r.listener ≡ door.listener)) }
-    ensures fault { IfErr result (λ r. r.fault ≡ serve_fault.Threads) }
-    ensures untouched { OnErr result (clock.new ≡ clock.old) }
-    ensures honest { IfOk result (λ d. K.is_honest d.core.keeper
-        → K.is_honest hall.desk.core.keeper) }
+    requires seats { AreSeats hall }
+    ensures { AnswersLobby (ends_of S.Source W.Sink) C.tells K.is_honest
+        (to_serve hall.desk.core clock.old door.listener) result clock.new }
 {
     let (served, _clock) = thread::scope(
         thread::scope_env(),
         common.rt,
         move |scope| -> (Result<Desk<K, D>, RefusedLobby<K, D, T>>, &mut C)
             requires free { AreFree hall.desk.lanes.items }
-            requires seats { AreSeats hall.keeps hall.desk.lanes.items hall.workers.items }
-            ensures served { IfOk result.0
-                (λ desk. ServesLobby C.tells hall.desk.core clock.entry.now desk.core
-                result.1.now) }
-            ensures guests { IfOk result.0
-                (λ desk. ServesGuests (source_of S.Source) (sink_of W.Sink) C.tells hall.desk.core
-                clock.entry.now desk.core result.1.now) }
-            ensures refused { IfErr result.0 (λ r. (r.desk.core ≡ hall.desk.core)
-                × (r.listener ≡ door.listener)) }
-            ensures fault { IfErr result.0 (λ r. r.fault ≡ serve_fault.Threads) }
-            ensures untouched { OnErr result.0 (result.1.now ≡ clock.entry.now) }
+            requires seats { AreSeats hall }
+            ensures answers { AnswersLobby (ends_of S.Source W.Sink) C.tells K.is_honest
+                (to_serve hall.desk.core clock.entry.now door.listener) result.0 result.1.now }
             ensures same_clock { result.1.ghost_name ≡ clock.entry.ghost_name }
-            ensures honest { IfOk result.0 (λ d. K.is_honest d.core.keeper
-                → K.is_honest hall.desk.core.keeper) }
         {
             let served = serve_scoped(common, scope, bells, hall, door, clock);
             (served, clock)
@@ -256,15 +222,8 @@ where
     C: Clock,
     requires name { blank.name ≡ L.name }
     requires parts { (blank.parts ≡ L.parts) × (blank.parts ≡ 2 ^ 64 - 1) }
-    ensures served { IfOk result (λ desk. ServesLobby C.tells core clock.old desk.core clock.new) }
-    ensures guests { IfOk result
-        (λ desk. ServesGuests (source_of S.Source) (sink_of W.Sink) C.tells core clock.old desk.core
-        clock.new) }
-    ensures refused { IfErr result (λ r. (r.desk.core ≡ core) × (r.listener ≡ listener)) }
-    ensures fault { IfErr result (λ r. (r.fault ≡ serve_fault.Memory)
-        ⊎ (r.fault ≡ serve_fault.Threads)) }
-    ensures untouched { OnErr result (clock.new ≡ clock.old) }
-    ensures honest { IfOk result (λ d. K.is_honest d.core.keeper → K.is_honest core.keeper) }
+    ensures { AnswersLobby (ends_of S.Source W.Sink) C.tells K.is_honest
+        (to_serve core clock.old listener) result clock.new }
 {
     let (book, all) = blank.open::<L>();
     let Ok(room) = take_room(alloc, book) else {
@@ -274,37 +233,31 @@ where
             listener,
         });
     };
-    let Room {
-        order,
-        bells,
-        lanes,
-        workers,
-        ring,
-        accepted,
-        hand,
-    } = room;
     let mut all = all;
     let noter = Noter::new(LOBBY, all.split_off(1, 0));
     let hall = Hall {
-        desk: Desk { core, lanes },
-        workers,
-        accepted: Some(accepted),
+        desk: Desk {
+            core,
+            lanes: room.lanes,
+        },
+        workers: room.workers,
+        accepted: Some(room.accepted),
         parts: Parts::of(all, SHARES - 2),
         keeps: false,
     };
     let door = Door {
         listener,
-        hand,
-        ring,
+        hand: room.hand,
+        ring: room.ring,
         noter,
     };
     let common = Common {
         rt,
         alloc,
-        order: &order,
+        order: &room.order,
         gate,
     };
-    in_scope(common, &bells, hall, door, clock)
+    in_scope(common, &room.bells, hall, door, clock)
 }
 
 /// Serves every connection that the listener accepts as a session, up to 64 at a time, until the listener gives no more and
@@ -343,15 +296,8 @@ where
     W: Sink + Send + Drop,
     T: Listen<S, W> + Send + Drop,
     C: Clock,
-    ensures served { IfOk result (λ d. ServesLobby C.tells desk.core clock.old d.core clock.new) }
-    ensures guests { IfOk result
-        (λ d. ServesGuests (source_of S.Source) (sink_of W.Sink) C.tells desk.core clock.old d.core
-        clock.new) }
-    ensures refused { IfErr result (λ r. (r.desk.core ≡ desk.core) × (r.listener ≡ listener)) }
-    ensures fault { IfErr result (λ r. (r.fault ≡ serve_fault.Memory)
-        ⊎ (r.fault ≡ serve_fault.Threads)) }
-    ensures untouched { OnErr result (clock.new ≡ clock.old) }
-    ensures honest { IfOk result (λ d. K.is_honest d.core.keeper → K.is_honest desk.core.keeper) }
+    ensures { AnswersLobby (ends_of S.Source W.Sink) C.tells K.is_honest
+        (to_serve desk.core clock.old listener) result clock.new }
 {
     serve_as::<R, K, D, Brand, G, S, W, T, C>(
         rt,

@@ -1,9 +1,9 @@
 ghost use Rattle.std.specs.Prelude.{◌≡◌, ◌++◌, ◌∷◌, [], ℕ, List, option_to_list};
-ghost use Rattle.ov_ends.specs.States.{source_of, sink_of};
-ghost use Rattle.ov_lanes.specs.Lanes.{AreOver, GoesOn, SameLane, StayAs};
-ghost use Rattle.ov_desk.specs.Guests.{HostsBy, HostsOn, SameSession, StayOrLeave};
+ghost use Rattle.ov_lanes.specs.Lanes.{AreOver, GoesOn, IsSteady, SameLane, StayAs};
+ghost use Rattle.ov_desk.specs.Guests.{HostsBy, HostsOn};
+ghost use Rattle.ov_desk.specs.LinkStates.{ends_of};
 ghost use Rattle.ov_desk.specs.Seats.{AreSeats};
-ghost use Rattle.ov_desk.specs.Serving.{IsTended, KeepsHall, RunsBy, TakesNoted};
+ghost use Rattle.ov_desk.specs.Serving.{KeepsHall, TakesNoted};
 
 use crate::accept::LOBBY;
 use crate::admit::admit;
@@ -42,11 +42,10 @@ fn turn_once_seen<R: Wait, K: Keeper + Drop, D: Draws + Drop>(
     moment: u64,
     serial: u64,
 ) -> bool
-    ensures goes { GoesOn moment desk.old.core desk.old.lanes.items desk.new.core
-        desk.new.lanes.items }
+    ensures goes { GoesOn moment desk.old desk.new }
     ensures rings { StayAs SameLane desk.old.lanes.items desk.new.lanes.items }
     ensures taken { TakesNoted serial desk.old.lanes.items result desk.new.lanes.items }
-    ensures honest { K.is_honest desk.new.core.keeper → K.is_honest desk.old.core.keeper }
+    ensures steady { IsSteady K.is_honest desk.old.core desk.new.core }
 {
     if place_of(&desk.lanes, serial).is_none() {
         return false;
@@ -75,13 +74,10 @@ where
     G: Gate + Sync,
     S: Source + Send + Drop + 's,
     W: Sink + Send + Drop + 's,
-    requires seats { AreSeats hall.old.keeps hall.old.desk.lanes.items hall.old.workers.items }
-    ensures goes { (moment : ℕ)
-        → GoesOn moment hall.old.desk.core hall.old.desk.lanes.items hall.new.desk.core
-        hall.new.desk.lanes.items }
-    ensures leaves { StayOrLeave IsTended (source_of S.Source) (sink_of W.Sink)
-        hall.old.desk.lanes.items hall.new.desk.lanes.items }
-    ensures seats { AreSeats hall.new.keeps hall.new.desk.lanes.items hall.new.workers.items }
+    requires seats { AreSeats hall.old }
+    ensures hosts { (moment : ℕ)
+        → HostsOn (ends_of S.Source W.Sink) moment hall.old.desk hall.new.desk }
+    ensures seats { AreSeats hall.new }
     ensures honest { K.is_honest hall.new.desk.core.keeper → K.is_honest hall.old.desk.core.keeper }
 {
     let Some(ring) = &mut hall.accepted else {
@@ -115,15 +111,10 @@ where
     G: Gate + Sync,
     S: Source + Send + Drop + 's,
     W: Sink + Send + Drop + 's,
-    requires seats { AreSeats hall.old.keeps hall.old.desk.lanes.items hall.old.workers.items }
-    ensures goes { GoesOn moment hall.old.desk.core hall.old.desk.lanes.items hall.new.desk.core
-        hall.new.desk.lanes.items }
-    ensures leaves { StayOrLeave SameSession (source_of S.Source) (sink_of W.Sink)
-        hall.old.desk.lanes.items hall.new.desk.lanes.items }
-    ensures kept { KeepsHall (note ∷ []) hall.old.keeps hall.old.accepted hall.old.desk.lanes.items
-        hall.old.workers hall.new.keeps hall.new.accepted hall.new.desk.lanes.items
-        hall.new.workers }
-    ensures seats { AreSeats hall.new.keeps hall.new.desk.lanes.items hall.new.workers.items }
+    requires seats { AreSeats hall.old }
+    ensures hosts { HostsOn (ends_of S.Source W.Sink) moment hall.old.desk hall.new.desk }
+    ensures kept { KeepsHall (note ∷ []) hall.old hall.new }
+    ensures seats { AreSeats hall.new }
     ensures honest { K.is_honest hall.new.desk.core.keeper → K.is_honest hall.old.desk.core.keeper }
 {
     if note == LOBBY && hall.accepted.is_some() {
@@ -151,15 +142,10 @@ where
     G: Gate + Sync,
     S: Source + Send + Drop + 's,
     W: Sink + Send + Drop + 's,
-    requires seats { AreSeats hall.old.keeps hall.old.desk.lanes.items hall.old.workers.items }
-    ensures goes { GoesOn moment hall.old.desk.core hall.old.desk.lanes.items hall.new.desk.core
-        hall.new.desk.lanes.items }
-    ensures hosts { HostsOn (source_of S.Source) (sink_of W.Sink) moment hall.old.desk.core
-        hall.old.desk.lanes.items hall.new.desk.core hall.new.desk.lanes.items }
-    ensures kept { KeepsHall (option_to_list note) hall.old.keeps hall.old.accepted
-        hall.old.desk.lanes.items hall.old.workers hall.new.keeps hall.new.accepted
-        hall.new.desk.lanes.items hall.new.workers }
-    ensures seats { AreSeats hall.new.keeps hall.new.desk.lanes.items hall.new.workers.items }
+    requires seats { AreSeats hall.old }
+    ensures hosts { HostsOn (ends_of S.Source W.Sink) moment hall.old.desk hall.new.desk }
+    ensures kept { KeepsHall (option_to_list note) hall.old hall.new }
+    ensures seats { AreSeats hall.new }
     ensures honest { K.is_honest hall.new.desk.core.keeper → K.is_honest hall.old.desk.core.keeper }
 {
     // If an allocation fails here, the transactions get their turn with the next note.
@@ -195,17 +181,13 @@ where
     S: Source + Send + Drop + 's,
     W: Sink + Send + Drop + 's,
     C: Clock,
-    requires seats { AreSeats hall.old.keeps hall.old.desk.lanes.items hall.old.workers.items }
-    ensures runs { RunsBy C.tells hall.old.desk.core hall.old.desk.lanes.items clock.old
-        hall.new.desk.core hall.new.desk.lanes.items clock.new }
-    ensures hosts { HostsBy (source_of S.Source) (sink_of W.Sink) C.tells hall.old.desk.core
-        hall.old.desk.lanes.items clock.old hall.new.desk.core hall.new.desk.lanes.items clock.new }
+    requires seats { AreSeats hall.old }
+    ensures hosts { HostsBy (ends_of S.Source W.Sink) C.tells hall.old.desk clock.old hall.new.desk
+        clock.new }
     ensures over { AreOver hall.new.desk.lanes.items }
     ensures kept { (notes : List ℕ) × (taken.new.serials ≡ taken.old.serials ++ notes)
-        × KeepsHall notes hall.old.keeps hall.old.accepted hall.old.desk.lanes.items
-        hall.old.workers hall.new.keeps hall.new.accepted hall.new.desk.lanes.items
-        hall.new.workers }
-    ensures seats { AreSeats hall.new.keeps hall.new.desk.lanes.items hall.new.workers.items }
+        × KeepsHall notes hall.old hall.new }
+    ensures seats { AreSeats hall.new }
     ensures honest { K.is_honest hall.new.desk.core.keeper → K.is_honest hall.old.desk.core.keeper }
 {
     let mut is_busy = true;

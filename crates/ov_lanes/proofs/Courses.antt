@@ -24,7 +24,7 @@ use Rattle.ov_core.specs.Stepping.{StepIs, RefusesStep, Closes, closing}
 use Rattle.ov_core.specs.Passing.{is_due, TicksIf}
 use Rattle.ov_core.proofs.Counted.{counts_none, counts_same, counts_on}
 use Rattle.ov_history.proofs.Histories.{keeps_on}
-use Rattle.ov_lanes.specs.Courses.{Spares}
+use Rattle.ov_lanes.specs.Courses.{Course, Spares}
 use Rattle.ov_lanes.specs.Moments.{IsAtMoment, AreTimed}
 use Rattle.ov_lanes.specs.Since.{HandsOut, and_then_handed, Since, course_of, Goes}
 use Rattle.ov_lanes.specs.Moving.{ClosesOnce}
@@ -136,11 +136,12 @@ module _ {K D : Type 0} {first a : CoreState K D} (at n : ℕ) (p : Since first 
     beside = λ t ne. spares_along (course_of p t) (course_of x.after t) (course_of y.after t) (x.beside t ne) (y.beside t ne);
   }
 
--- ---- frames that are handed out
-
-pub record HandsOn {K D : Type 0} {first a : CoreState K D} (at n : ℕ) (p : Since first a) (frames : List (List ℕ)) (b : CoreState K D) : Type 0 where
+-- what was done to a session itself, as this relation says, and beside it
+pub record Does {K D : Type 0} {first a : CoreState K D} (at n : ℕ) (p : Since first a) (b : CoreState K D) (relates : Course → Course → Type 0) : Type 0 where
   pub goes : Goes at n p b
-  pub own : OwnHanded (course_of p n) (course_of goes.after n) frames
+  pub own : relates (course_of p n) (course_of goes.after n)
+
+-- ---- frames that are handed out
 
 pub hands_none : {K D : Type 0} (n : ℕ) (a : CoreState K D) → HandsOut n [] a a
 hands_none n a = record {
@@ -206,7 +207,7 @@ module _ {K D : Type 0} {first a b : CoreState K D} (n : ℕ) (p : Since first a
     frames = λ s. p.frames s ∙ waits s;
   }
 
-  pub hands_on : (at : ℕ) → HandsOn at n p frames b
+  pub hands_on : (at : ℕ) → Does at n p b (λ c d. OwnHanded c d frames)
   hands_on at = record {
     goes = record {
       after = handed_since;
@@ -234,12 +235,8 @@ module _ {K D : Type 0} {first a b : CoreState K D} (n : ℕ) (p : Since first a
 
 -- ---- a closing
 
-pub record Shuts {K D : Type 0} {first a : CoreState K D} (at n : ℕ) (p : Since first a) (why : machine.Cause) (b : CoreState K D) (known known' : Option Cause) : Type 0 where
-  pub goes : Goes at n p b
-  pub own : OwnClosed (course_of p n) (course_of goes.after n) why known known'
-
 module _ {K D : Type 0} {first a : CoreState K D} (at n : ℕ) (p : Since first a) (why : machine.Cause) (known known' : Option Cause) where
-  shuts_open : (b : CoreState K D) → Closes a.state.moment n why a b → (cause : Cause) → known' ≡ Some cause → cause_view cause ≡ why → Shuts at n p why b known known'
+  shuts_open : (b : CoreState K D) → Closes a.state.moment n why a b → (cause : Cause) → known' ≡ Some cause → cause_view cause ≡ why → Does at n p b (λ c d. OwnClosed c d why known known')
   shuts_open b closes cause is view =
       let e : Entry = closing a.state.moment n why in
       let x = since_enters p e closes.moves in
@@ -256,24 +253,20 @@ module _ {K D : Type 0} {first a : CoreState K D} (at n : ℕ) (p : Since first 
         };
       }
 
-  shuts_none : is_open a.state n ≡ false → known' ≡ known → Shuts at n p why a known known'
+  shuts_none : is_open a.state n ≡ false → known' ≡ known → Does at n p a (λ c d. OwnClosed c d why known known')
   shuts_none away same = record {
     goes = goes_same at n p;
     own = record { asks = refl; handed = refl; waiting = refl; away = away; by = inr (away, refl, same) };
   }
 
-  pub shuts : (b : CoreState K D) → ClosesOnce n why a b known known' → Shuts at n p why b known known'
+  pub shuts : (b : CoreState K D) → ClosesOnce n why a b known known' → Does at n p b (λ c d. OwnClosed c d why known known')
   shuts b (inl (closes, (cause, is, view))) = shuts_open b closes cause is view
-  shuts b (inr (same, away, known_same)) = subst (λ (k : CoreState K D). Shuts at n p why k known known') (sym same) (shuts_none away known_same)
+  shuts b (inr (same, away, known_same)) = subst (λ (k : CoreState K D). Does at n p k (λ c d. OwnClosed c d why known known')) (sym same) (shuts_none away known_same)
 
 -- ---- a message
 
-pub record Takes {K D : Type 0} {first a : CoreState K D} (at n : ℕ) (p : Since first a) (message : Message) (b : CoreState K D) : Type 0 where
-  pub goes : Goes at n p b
-  pub own : OwnTook (course_of p n) (course_of goes.after n) message
-
 module _ {K D : Type 0} {first a : CoreState K D} (at n : ℕ) (p : Since first a) (message : Message) where
-  takes_by_message : (b : CoreState K D) (e : Entry) (m : EntersEntry a e b) → e.choice.moment ≡ max at a.state.moment → e.event ≡ Take n message → Takes at n p message b
+  takes_by_message : (b : CoreState K D) (e : Entry) (m : EntersEntry a e b) → e.choice.moment ≡ max at a.state.moment → e.event ≡ Take n message → Does at n p b (λ c d. OwnTook c d message)
   takes_by_message b e m when is =
       let x = since_enters p e m in
       let t : Stepped = record { state = b.state; sent = x.sent } in
@@ -295,7 +288,7 @@ module _ {K D : Type 0} {first a : CoreState K D} (at n : ℕ) (p : Since first 
         };
       }
 
-  takes_by_closing : (b : CoreState K D) (e : Entry) (m : EntersEntry a e b) → e.choice.moment ≡ max at a.state.moment → e.event ≡ Close n machine.Memory → Takes at n p message b
+  takes_by_closing : (b : CoreState K D) (e : Entry) (m : EntersEntry a e b) → e.choice.moment ≡ max at a.state.moment → e.event ≡ Close n machine.Memory → Does at n p b (λ c d. OwnTook c d message)
   takes_by_closing b e m when is =
       let x = since_enters p e m in
       let t : Stepped = record { state = b.state; sent = x.sent } in
@@ -316,13 +309,13 @@ module _ {K D : Type 0} {first a : CoreState K D} (at n : ℕ) (p : Since first 
         };
       }
 
-  takes_none : is_open a.state n ≡ false → Takes at n p message a
+  takes_none : is_open a.state n ≡ false → Does at n p a (λ c d. OwnTook c d message)
   takes_none away = record {
     goes = goes_same at n p;
     own = record { more = []; waiting = sym (append-nil (waiting_for n a.outbox)); silent = λ _. refl; handed = refl; by = inl (away, away, refl, refl) };
   }
 
-  pub takes : (draws : D → Uuid → D → Type 0) (b : CoreState K D) (r : Reply) → StepIs draws (max at a.state.moment) (Take n message) a r b → Takes at n p message b
+  pub takes : (draws : D → Uuid → D → Type 0) (b : CoreState K D) (r : Reply) → StepIs draws (max at a.state.moment) (Take n message) a r b → Does at n p b (λ c d. OwnTook c d message)
   takes draws b (answer.Opened session) e = absurd e.tells
   takes draws b answer.Done e = takes_by_message b e.entry e.moves e.moment e.tells.0
   takes draws b answer.Closed e = elim e.tells.0 [
@@ -331,7 +324,7 @@ module _ {K D : Type 0} {first a : CoreState K D} (at n : ℕ) (p : Since first 
   ]
   takes draws b (answer.Refused fault.TooMany) (same, why) = absurd why
   takes draws b (answer.Refused fault.Memory) (same, why) = absurd why
-  takes draws b (answer.Refused fault.NotOpen) (same, why) = subst (λ (k : CoreState K D). Takes at n p message k) (sym same) (takes_none why)
+  takes draws b (answer.Refused fault.NotOpen) (same, why) = subst (λ (k : CoreState K D). Does at n p k (λ c d. OwnTook c d message)) (sym same) (takes_none why)
 
 -- ---- time
 

@@ -14,3 +14,4 @@ pub mod PlaceLaws
 pub mod Turning
 pub mod Flushing
 pub mod Seating
+pub mod Steady

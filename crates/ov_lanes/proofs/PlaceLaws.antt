@@ -15,7 +15,7 @@ use Rattle.ov_core.proofs.Counted.{counts_none, counts_on}
 use Rattle.ov_lanes.specs.Courses.{Course, Spares}
 use Rattle.ov_lanes.specs.Moments.{AreTimed}
 use Rattle.ov_lanes.specs.Since.{Since, course_of, course_before}
-use Rattle.ov_lanes.specs.Lanes.{LaneFits, Moves, LooksAt, IsNewLane, AreNewLanes, IsAt, AreFree, IsUntold, StaysAs, StayAs, Serves, ServesOn, GoesOn, PlaceFits, MovesPlace}
+use Rattle.ov_lanes.specs.Lanes.{LaneFits, Moves, LooksAt, IsNewLane, AreNewLanes, IsAt, AreFree, IsUntold, StaysAs, StayAs, Serves, ServesOn, PlacesGoOn, PlaceFits, MovesPlace}
 use Rattle.ov_lanes.specs.declared.lane.Lane.{Lane}
 use Rattle.ov_lanes.proofs.Timing.{timed_append}
 use Rattle.ov_lanes.proofs.Courses.{Passes, goes_same}
@@ -227,7 +227,7 @@ fits_place ls i s (Some l) is = s.fits i l is
 
 -- by the clause of a call
 pub goes_at : {K D : Type 0} {a b : CoreState K D} (at : ℕ) (ls : List (Option Lane)) (i : ℕ) (place place' : Option Lane) → i < length ls → place ≡ get_or ls i place
-    → ((start : CoreState K D) (since : Since start a) → PlaceFits since place → MovesPlace at since place b place') → GoesOn at a ls b (slice_set ls i place')
+    → ((start : CoreState K D) (since : Since start a) → PlaceFits since place → MovesPlace at since place b place') → PlacesGoOn at a ls b (slice_set ls i place')
 goes_at at ls i place place' lt read moves start s =
     let is : get_or ls i None ≡ place = get_or_default ls i None place lt ∙ sym read in
     serves_moved at ls i lt s place place' is (moves start s.since (fits_place ls i s place is))
@@ -262,13 +262,13 @@ module _ {K D : Type 0} {start a b : CoreState K D} (at : ℕ) (ls : List (Optio
       })
       x.more x.adds x.timed x.counts
 
-pub goes_none : {K D : Type 0} (at : ℕ) (a : CoreState K D) (ls : List (Option Lane)) → GoesOn at a ls a ls
+pub goes_none : {K D : Type 0} (at : ℕ) (a : CoreState K D) (ls : List (Option Lane)) → PlacesGoOn at a ls a ls
 goes_none at a ls start s = record { after = s; more = []; adds = sym (append-nil s.since.entries); timed = refl; counts = counts_none a }
 
-pub goes_unchanged : {K D : Type 0} {a b : CoreState K D} (at : ℕ) (ls : List (Option Lane)) → b ≡ a → GoesOn at a ls b ls
-goes_unchanged {a = a} at ls same = subst (λ (k : CoreState _ _). GoesOn at a ls k ls) (sym same) (goes_none at a ls)
+pub goes_unchanged : {K D : Type 0} {a b : CoreState K D} (at : ℕ) (ls : List (Option Lane)) → b ≡ a → PlacesGoOn at a ls b ls
+goes_unchanged {a = a} at ls same = subst (λ (k : CoreState _ _). PlacesGoOn at a ls k ls) (sym same) (goes_none at a ls)
 
-pub goes_along : {K D : Type 0} {a b c : CoreState K D} (at : ℕ) (ls ms ns : List (Option Lane)) → GoesOn at a ls b ms → GoesOn at b ms c ns → GoesOn at a ls c ns
+pub goes_along : {K D : Type 0} {a b c : CoreState K D} (at : ℕ) (ls ms ns : List (Option Lane)) → PlacesGoOn at a ls b ms → PlacesGoOn at b ms c ns → PlacesGoOn at a ls c ns
 goes_along {a = a} {b = b} {c = c} at ls ms ns x y start s =
     let p = x start s in let q = y start p.after in
     record {
@@ -279,7 +279,7 @@ goes_along {a = a} {b = b} {c = c} at ls ms ns x y start s =
       counts = counts_on a b c p.more q.more p.counts q.counts;
     }
 
-pub goes_passed : {K D : Type 0} {a b : CoreState K D} (at : ℕ) (ls : List (Option Lane)) → ((start : CoreState K D) (since : Since start a) → Passes at since b) → GoesOn at a ls b ls
+pub goes_passed : {K D : Type 0} {a b : CoreState K D} (at : ℕ) (ls : List (Option Lane)) → ((start : CoreState K D) (since : Since start a) → Passes at since b) → PlacesGoOn at a ls b ls
 goes_passed at ls passes start s = serves_passed at ls s (passes start s.since)
 
 -- nothing was taken of any lane and nothing put
@@ -294,7 +294,7 @@ module _ (P : Lane → Lane → Type 0) where
   some_after (Some k) None l s is = absurd s
   some_after (Some k) (Some m) l s is = (m, refl, subst (λ (x : Lane). P x m) (same_Some k l is) s)
 
-pub goes_looked : {K D : Type 0} {a : CoreState K D} (at : ℕ) (ls ms : List (Option Lane)) → StayAs LooksAt ls ms → GoesOn at a ls a ms
+pub goes_looked : {K D : Type 0} {a : CoreState K D} (at : ℕ) (ls ms : List (Option Lane)) → StayAs LooksAt ls ms → PlacesGoOn at a ls a ms
 goes_looked {a = a} at ls ms looks start s =
     served_on at ls ms s s.since
     (record {

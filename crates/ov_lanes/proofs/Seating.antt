@@ -11,7 +11,7 @@ use Rattle.ov_core.specs.Stepping.{IsEntered}
 use Rattle.ov_lanes.specs.Courses.{Spares}
 use Rattle.ov_lanes.specs.Moments.{AreTimed}
 use Rattle.ov_lanes.specs.Since.{Since, course_of, course_before}
-use Rattle.ov_lanes.specs.Lanes.{IsAt, IsNewLane, Serves, ServesOn, GoesOn}
+use Rattle.ov_lanes.specs.Lanes.{IsAt, IsNewLane, Serves, ServesOn, PlacesGoOn}
 use Rattle.ov_lanes.specs.Opening.{IsUntouched}
 use Rattle.ov_lanes.specs.declared.lane.Lane.{Lane}
 use Rattle.ov_lanes.proofs.Courses.{EnteredTo, since_enters}
@@ -95,5 +95,5 @@ module _ {K D : Type 0} {start a b : CoreState K D} (at : ℕ) (ls : List (Optio
       taken_free j l e free is = none_some l (sym free ∙ (ap (λ (k : ℕ). get_or ls k None) (sym e) ∙ is))
 
 pub goes_seated : {K D : Type 0} {a b : CoreState K D} (at : ℕ) (ls : List (Option Lane)) (i : ℕ) (m : Lane) → i < length ls → get_or ls i None ≡ None → (draws : D → Uuid → D → Type 0) (session : Session)
-    → IsEntered draws a.state.moment machine.Open a (answer.Opened session) b → IsNewLane session.serial m → GoesOn at a ls b (slice_set ls i (Some m))
+    → IsEntered draws a.state.moment machine.Open a (answer.Opened session) b → IsNewLane session.serial m → PlacesGoOn at a ls b (slice_set ls i (Some m))
 goes_seated at ls i m lt free draws session entered new start s = seated at ls s session.serial (opened at ls s draws session entered) i m lt free new

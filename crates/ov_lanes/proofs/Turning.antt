@@ -11,7 +11,7 @@ use Rattle.ov_specs.specs.wire.Message.{Message}
 use Rattle.ov_order.specs.declared.items.Brought.{Brought}
 use Rattle.ov_workers.specs.declared.cause.ReadCause.{ReadCause}
 use Rattle.ov_core.specs.Following.{CoreState}
-use Rattle.ov_lanes.specs.Lanes.{SameLane, LooksAt, PutsAlone, IsAt, StaysAs, StayAs, IsFlushedLane, AreFlushed, AreFlushedBelow, IsQuiet, GivesUpIf, unmarked, unmarked_at, TakesPlace, TakesAt, TakesOne, LookAll}
+use Rattle.ov_lanes.specs.Lanes.{SameLane, LooksAt, PutsAlone, IsAt, StaysAs, StayAs, IsFlushedLane, AreFlushedBelow, IsQuiet, GivesUpIf, unmarked, unmarked_at, TakesPlace, TakesAt, TakesOne, LookAll}
 use Rattle.ov_lanes.specs.declared.lane.Lane.{Lane}
 use Rattle.ov_lanes.proofs.PlaceLaws.{none_some, at_below}
 
@@ -200,7 +200,7 @@ module _ {K D : Type 0} (old new : CoreState K D) (ls : List (Option Lane)) (i :
   ]
 
 -- all places
-pub flushed_all : {K D : Type 0} (core : CoreState K D) (ls : List (Option Lane)) (n : ℕ) → length ls ≤ n → AreFlushedBelow n core ls → AreFlushed core ls
+pub flushed_all : {K D : Type 0} (core : CoreState K D) (ls : List (Option Lane)) (n : ℕ) → length ls ≤ n → AreFlushedBelow n core ls → (at : ℕ) (l : Lane) → IsAt ls at l → IsFlushedLane core l
 flushed_all core ls n all below j l is = below j l (let lt = at_below ls j l is in omega (arith, lt, all)) is
 
 -- whether one of them was given up so far

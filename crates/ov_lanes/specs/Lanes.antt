@@ -12,9 +12,14 @@ use Rattle.ov_lanes.specs.Courses.{Course, Spares}
 use Rattle.ov_lanes.specs.Moments.{AreTimed}
 use Rattle.ov_lanes.specs.Since.{Since, course_of, course_before, Goes}
 use Rattle.ov_lanes.specs.Fitting.{Items, FitsCourse, IsFlushed}
+use Rattle.ov_lanes.specs.declared.desk.Desk.{Desk}
 use Rattle.ov_lanes.specs.declared.lane.Lane.{Lane}
 
 -- ---- one lane
+
+-- what a lane has taken and put fits this course
+abbrev pub FitsLane : Course → Lane → Type 0
+FitsLane c l = FitsCourse c l.cause (received l.inbound) (sent l.outbound) l.marked l.ended
 
 -- what a lane has put fits the course of its session, with these items taken
 abbrev pub LaneFitsWith : {K D : Type 0} {first core : CoreState K D} → Since first core → Items → Lane → Type 0
@@ -94,8 +99,8 @@ abbrev pub IsFlushedLane : {K D : Type 0} → CoreState K D → Lane → Type 0
 IsFlushedLane core l = (l.marked ≡ true) ⊎ ((is_open core.state l.session.serial ≡ true) × (waiting_for l.session.serial core.outbox ≡ []))
 
 -- so it is of each session that is served
-abbrev pub AreFlushed : {K D : Type 0} → CoreState K D → List (Option Lane) → Type 0
-AreFlushed core places = (at : ℕ) (l : Lane) → IsAt places at l → IsFlushedLane core l
+abbrev pub AreFlushed : {K D : Type 0} → Desk K D → Type 0
+AreFlushed desk = (at : ℕ) (l : Lane) → IsAt desk.lanes.items at l → IsFlushedLane desk.core l
 
 -- a session that is not open and was not closed was handed nothing
 abbrev pub IsUntold : Course → Type 0
@@ -121,8 +126,17 @@ pub record ServesOn {K D : Type 0} {start core : CoreState K D} {places : List (
   pub counts : CountsWork core more core'
 
 -- Whatever was done since a core was `start`, the places fit it as before.
-abbrev pub GoesOn : {K D : Type 0} → ℕ → CoreState K D → List (Option Lane) → CoreState K D → List (Option Lane) → Type 0
-GoesOn {K} {D} at core places core' places' = (start : CoreState K D) (serves : Serves start core places) → ServesOn at serves core' places'
+abbrev pub PlacesGoOn : {K D : Type 0} → ℕ → CoreState K D → List (Option Lane) → CoreState K D → List (Option Lane) → Type 0
+PlacesGoOn {K} {D} at core places core' places' = (start : CoreState K D) (serves : Serves start core places) → ServesOn at serves core' places'
+
+-- so it is of a desk
+abbrev pub GoesOn : {K D : Type 0} → ℕ → Desk K D → Desk K D → Type 0
+GoesOn at old new = PlacesGoOn at old.core old.lanes.items new.core new.lanes.items
+
+-- No session was opened, and a keeper that is honest now was honest before.
+pub record IsSteady {K D : Type 0} (is_honest : K → Type 0) (old new : CoreState K D) : Type 0 where
+  pub next : new.state.next ≡ old.state.next
+  pub honest : is_honest new.keeper → is_honest old.keeper
 
 -- ---- what a turn makes
 
@@ -146,9 +160,9 @@ LookAll ls ms = StayAs LooksAt ls ms
 
 -- Whether an item of the session was seen. If so, it was taken, and all that waits for any session was moved; otherwise nothing
 -- is changed.
-abbrev pub Turns : {K D : Type 0} → ℕ → CoreState K D → List (Option Lane) → Bool → CoreState K D → List (Option Lane) → Type 0
-Turns serial old ls true new ms = TakesOne serial ls ms × AreFlushed new ms
-Turns serial old ls false new ms = (new ≡ old) × LookAll ls ms
+abbrev pub Turns : {K D : Type 0} → ℕ → Desk K D → Bool → Desk K D → Type 0
+Turns serial old true new = TakesOne serial old.lanes.items new.lanes.items × AreFlushed new
+Turns serial old false new = (new.core ≡ old.core) × LookAll old.lanes.items new.lanes.items
 
 -- ---- for private clauses
 
@@ -176,6 +190,12 @@ TakesPlace (Some l) (Some m) = (item : Brought Message ReadCause) × (received m
 -- nothing was taken from the lane, and what is put goes into the same ring
 abbrev pub PutsAlone : Lane → Lane → Type 0
 PutsAlone a b = SameProducer a.outbound b.outbound × (b.inbound ≡ a.inbound) × (b.session ≡ a.session)
+
+-- Something that waits may have been moved. The desk goes on from whatever its core was, and nothing is taken from a ring.
+pub record FlushesDesk {K D : Type 0} (is_honest : K → Type 0) (old new : Desk K D) : Type 0 where
+  pub goes : (moment : ℕ) → GoesOn moment old new
+  pub rings : StayAs PutsAlone old.lanes.items new.lanes.items
+  pub steady : IsSteady is_honest old.core new.core
 
 -- nothing was entered, and what waits for a session still waits or was moved, all of it
 abbrev pub IsQuiet : {K D : Type 0} → CoreState K D → CoreState K D → Type 0

@@ -48,8 +48,19 @@ pub record GivesUp {K D : Type 0} (n : ℕ) (old new : CoreState K D) (known kno
 abbrev pub SameInbound : Lane → Lane → Type 0
 SameInbound a b = SameProducer a.outbound b.outbound × (b.inbound ≡ a.inbound) × (b.session ≡ a.session) × (b.ended ≡ a.ended)
 
+-- a machine, beside the lane of one of its sessions
+pub record AtLane (K D : Type 0) : Type 0 where
+  pub core : CoreState K D
+  pub lane : Lane
+
+-- these two
+abbrev pub at_lane : {K D : Type 0} → CoreState K D → Lane → AtLane K D
+at_lane core lane = record { core = core; lane = lane }
+
 -- what taking an item with a moment reported makes of a session: a message is entered, an end closes it
-abbrev pub TakesItem : {K D : Type 0} → (D → Uuid → D → Type 0) → ℕ → Brought Message ReadCause → ℕ → CoreState K D → CoreState K D → Option Cause → Option Cause → Bool → Bool → Type 0
-TakesItem draws at (Brings message) n old new known known' ended ended' =
-    ((answer : Stepped) × StepIs draws (max at old.state.moment) (machine.Take n message) old answer new) × (known' ≡ known) × (ended' ≡ ended)
-TakesItem draws at (Last cause) n old new known known' ended ended' = ClosesOnce n (end_cause cause) old new known known' × (ended' ≡ true)
+abbrev pub TakesItem : {K D : Type 0} → (D → Uuid → D → Type 0) → ℕ → Brought Message ReadCause → AtLane K D → AtLane K D → Type 0
+TakesItem draws at (Brings message) old new =
+    ((answer : Stepped) × StepIs draws (max at old.core.state.moment) (machine.Take old.lane.session.serial message) old.core answer new.core)
+    × (new.lane.cause ≡ old.lane.cause) × (new.lane.ended ≡ old.lane.ended)
+TakesItem draws at (Last cause) old new =
+    ClosesOnce old.lane.session.serial (end_cause cause) old.core new.core old.lane.cause new.lane.cause × (new.lane.ended ≡ true)

@@ -1,8 +1,10 @@
-ghost use Rattle.std.specs.Prelude.{◌≡◌, [], ℕ};
-ghost use Rattle.ov_lanes.specs.Lanes.{AreFlushed, GoesOn, PutsAlone, SameLane, StayAs, Turns};
+ghost use Rattle.std.specs.Prelude.{◌≡◌, ◌+◌, ◌<◌, ◌≤◌, [], true, false, vec_len, MatchBool};
+ghost use Rattle.ov_lanes.specs.Lanes.{AreFlushed, AreFlushedBelow, FlushesDesk, GoesOn, IsSteady};
+ghost use Rattle.ov_lanes.specs.Lanes.{LookAll, SameLane, StayAs, TakesAt, Turns, unmarked};
 
 use crate::lane::Lane;
-use crate::lanes::{flush_all, place_of, take_at};
+use crate::lanes::place_of;
+use crate::moves::{flush, take};
 use ov_core::Core;
 use ov_keeper::Keeper;
 use ov_requests::Draws;
@@ -44,36 +46,84 @@ impl<K: Keeper, D: Draws> Desk<K, D> {
 }
 
 impl<K: Keeper + Drop, D: Draws + Drop> Desk<K, D> {
+    /// Takes an item of the session at a place, as `take` does. Returns false if there is none.
+    fn take_at(&mut self, alloc: Global, moment: u64, at: usize) -> bool
+        requires { at < vec_len self.old.lanes }
+        ensures goes { GoesOn moment self.old self.new }
+        ensures rings { StayAs SameLane self.old.lanes.items self.new.lanes.items }
+        ensures taken { MatchBool result (TakesAt at self.old.lanes.items self.new.lanes.items)
+            ((self.new.core ≡ self.old.core) × LookAll self.old.lanes.items self.new.lanes.items) }
+        ensures steady { IsSteady K.is_honest self.old.core self.new.core }
+    {
+        match &mut self.lanes[at] {
+            Some(lane) => take(&mut self.core, alloc, moment, lane),
+            None => false,
+        }
+    }
+
     /// Takes one item of the ring of the session of this serial: enters a message at the moment in milliseconds, or at the
     /// last one if that is later; an end closes the session. Then moves what waits for all sessions, as `flush` does. Returns
     /// false if no item was seen, or if the session has no place; then nothing is changed. Takes no lock, and waits for nobody.
     pub fn turn(&mut self, alloc: Global, moment: u64, serial: u64) -> bool
-        ensures goes { GoesOn moment self.old.core self.old.lanes.items self.new.core
-            self.new.lanes.items }
+        ensures goes { GoesOn moment self.old self.new }
         ensures rings { StayAs SameLane self.old.lanes.items self.new.lanes.items }
-        ensures turns { Turns serial self.old.core self.old.lanes.items result self.new.core
-            self.new.lanes.items }
-        ensures honest { K.is_honest self.new.core.keeper → K.is_honest self.old.core.keeper }
+        ensures turns { Turns serial self.old result self.new }
+        ensures steady { IsSteady K.is_honest self.old.core self.new.core }
     {
         let Some(at) = place_of(&self.lanes, serial) else {
             return false;
         };
-        if !take_at(&mut self.core, alloc, moment, &mut self.lanes, at) {
+        if !self.take_at(alloc, moment, at) {
             return false;
         }
-        flush_all(&mut self.core, &mut self.lanes);
+        self.flush();
         true
     }
 
-    /// Moves what waits for all sessions: frames into their rings, and after the last frame of a closed session the end mark.
-    /// A session whose ring has no room for a frame is closed as `Overrun`, and what waits for it is dropped.
-    pub fn flush(&mut self)
-        ensures goes { (moment : ℕ)
-            → GoesOn moment self.old.core self.old.lanes.items self.new.core self.new.lanes.items }
-        ensures rings { StayAs PutsAlone self.old.lanes.items self.new.lanes.items }
-        ensures flushed { AreFlushed self.new.core self.new.lanes.items }
-        ensures honest { K.is_honest self.new.core.keeper → K.is_honest self.old.core.keeper }
+    /// Moves what waits for the session at a place. Returns whether it was closed for want of room.
+    fn flush_at(&mut self, at: usize) -> bool
+        requires { at < vec_len self.old.lanes }
+        ensures flushes { FlushesDesk K.is_honest self.old self.new }
+        ensures fewer { MatchBool result
+            (unmarked self.new.lanes.items < unmarked self.old.lanes.items)
+            (unmarked self.new.lanes.items ≤ unmarked self.old.lanes.items) }
+        ensures flushed { result ≡ false
+            → AreFlushedBelow at self.old.core self.old.lanes.items
+            → AreFlushedBelow (at + 1) self.new.core self.new.lanes.items }
     {
-        flush_all(&mut self.core, &mut self.lanes);
+        match &mut self.lanes[at] {
+            Some(lane) => flush(&mut self.core, lane),
+            None => false,
+        }
+    }
+
+    /// Moves what waits for each session, once. Returns whether one of them was closed for want of room.
+    fn flush_each(&mut self) -> bool
+        ensures flushes { FlushesDesk K.is_honest self.old self.new }
+        ensures fewer { result ≡ true
+            → unmarked self.new.lanes.items < unmarked self.old.lanes.items }
+        ensures flushed { result ≡ false → AreFlushed self.new }
+    {
+        let mut any = false;
+        for at in 0..self.lanes.len() {
+            if self.flush_at(at) {
+                any = true;
+            }
+        }
+        any
+    }
+
+    /// Moves what waits for all sessions: frames into their rings, and after the last frame of a closed session the end mark.
+    /// A session whose ring has no room for a frame is closed as `Overrun`, and what waits for it is dropped. It may have owned
+    /// locks, and their next owners are notified: then all sessions are flushed again.
+    pub fn flush(&mut self)
+        ensures flushes { FlushesDesk K.is_honest self.old self.new }
+        ensures flushed { AreFlushed self.new }
+    {
+        loop {
+            if !self.flush_each() {
+                return;
+            }
+        }
     }
 }

@@ -1,9 +1,7 @@
-ghost use Rattle.std.specs.Prelude.{◌≡◌, ◌<◌, ◌≤◌, ◌++◌, ℕ, [], ◌∷◌, true, false, length, max};
-ghost use Rattle.std.specs.Prelude.{Some, unwrap_or, MatchBool};
-ghost use Rattle.rtrb.specs.Ring.{sent, received, SameProducer};
+ghost use Rattle.std.specs.Prelude.{◌≡◌, ◌++◌, ℕ, [], ◌∷◌, true, false, Some, unwrap_or, MatchBool};
+ghost use Rattle.rtrb.specs.Ring.{sent, received};
 ghost use Rattle.ov_order.specs.declared.items.Brought.{Brought as SpecBrought};
 ghost use Rattle.ov_order.specs.declared.items.Sent.TheVariants.{End};
-ghost use Rattle.ov_specs.specs.machine.Machine as machine;
 ghost use Rattle.ov_specs.specs.wire.Message.{Message};
 ghost use Rattle.ov_workers.specs.declared.cause.ReadCause.{ReadCause as SpecReadCause};
 ghost use Rattle.ov_history.specs.Entries.{cause_view};
@@ -11,14 +9,13 @@ ghost use Rattle.ov_core.specs.Following.{CoreState};
 ghost use Rattle.ov_history.specs.declared.event.Cause.TheVariants.{Memory};
 ghost use Rattle.ov_lanes.specs.Since.{Since};
 ghost use Rattle.ov_lanes.specs.Fitting.{Items, end_cause};
-ghost use Rattle.ov_lanes.specs.Lanes.{LaneFits, LaneFitsWith, Moves, Flushes, SameLane, LooksAt};
-ghost use Rattle.ov_lanes.specs.Lanes.{GivesUpIf};
-ghost use Rattle.ov_lanes.specs.Moving.{ClosesOnce, MovesFrames, GivesUp, TakesItem, SameInbound};
-ghost use Rattle.ov_core.specs.Stepping.{StepIs};
-ghost use Rattle.ov_history.specs.declared.event.Stepped.{Stepped as SpecStepped};
+ghost use Rattle.ov_lanes.specs.Lanes.{Flushes, GivesUpIf, IsSteady, LaneFits, LaneFitsWith, LooksAt};
+ghost use Rattle.ov_lanes.specs.Lanes.{Moves, SameLane};
+ghost use Rattle.ov_lanes.specs.Moving.{ClosesOnce, GivesUp, MovesFrames, SameInbound, TakesItem};
+ghost use Rattle.ov_lanes.specs.Moving.{at_lane};
 
 use crate::lane::Lane;
-use ov_core::{Cause, Core, Event, Session};
+use ov_core::{Cause, Core, Event};
 use ov_keeper::Keeper;
 use ov_order::{Brought, Sent};
 use ov_requests::Draws;
@@ -103,7 +100,7 @@ pub(crate) fn flush<K: Keeper + Drop, D: Draws + Drop>(
         → Flushes at since items lane.old core.new lane.new }
     ensures gives_up { GivesUpIf result core.old (Some lane.old) core.new (Some lane.new) }
     ensures inbound { SameInbound lane.old lane.new }
-    ensures honest { K.is_honest core.new.keeper → K.is_honest core.old.keeper }
+    ensures steady { IsSteady K.is_honest core.old core.new }
 {
     if lane.marked {
         return false;
@@ -131,41 +128,8 @@ fn cause_of(cause: ReadCause) -> Cause
     }
 }
 
-/// Enters the message at the moment, or at the last one if that is later. A message of a closed session is dropped.
-fn take_message<K: Keeper + Drop, D: Draws + Drop>(
-    core: &mut Core<K, D>,
-    alloc: Global,
-    moment: u64,
-    session: Session,
-    message: Received,
-)
-    ensures takes { (answer : SpecStepped)
-        × StepIs D.draws (max moment core.old.state.moment) (machine.Take session.serial message)
-        core.old answer core.new }
-    ensures honest { K.is_honest core.new.keeper → K.is_honest core.old.keeper }
-{
-    let _ = core.step(alloc, moment, Event::Take(session, message));
-}
-
-/// Notes that the reader has ended, and closes the session, if it is open.
-fn take_end<K: Keeper + Drop, D: Draws + Drop>(
-    core: &mut Core<K, D>,
-    lane: &mut Lane,
-    cause: ReadCause,
-)
-    ensures closes { ClosesOnce lane.old.session.serial (end_cause cause) core.old core.new
-        lane.old.cause lane.new.cause }
-    ensures ended { lane.new.ended ≡ true }
-    ensures rings { (lane.new.outbound ≡ lane.old.outbound)
-        × (lane.new.inbound ≡ lane.old.inbound) }
-    ensures same { (lane.new.session ≡ lane.old.session) × (lane.new.marked ≡ lane.old.marked) }
-    ensures honest { K.is_honest core.new.keeper → K.is_honest core.old.keeper }
-{
-    lane.ended = true;
-    close(core, lane, cause_of(cause));
-}
-
-/// Takes an item that was popped from the ring.
+/// Takes an item that was popped from the ring: enters a message at the moment, or at the last one if that is later; closes
+/// the session at its reader's end, if it is open. A message of a closed session is dropped.
 fn take_item<K: Keeper + Drop, D: Draws + Drop>(
     core: &mut Core<K, D>,
     alloc: Global,
@@ -173,16 +137,21 @@ fn take_item<K: Keeper + Drop, D: Draws + Drop>(
     lane: &mut Lane,
     item: Brought<Received, ReadCause>,
 )
-    ensures takes { TakesItem D.draws moment item lane.old.session.serial core.old core.new
-        lane.old.cause lane.new.cause lane.old.ended lane.new.ended }
+    ensures takes { TakesItem D.draws moment item (at_lane core.old lane.old)
+        (at_lane core.new lane.new) }
     ensures rings { (lane.new.outbound ≡ lane.old.outbound)
         × (lane.new.inbound ≡ lane.old.inbound) }
     ensures same { (lane.new.session ≡ lane.old.session) × (lane.new.marked ≡ lane.old.marked) }
     ensures honest { K.is_honest core.new.keeper → K.is_honest core.old.keeper }
 {
     match item {
-        Brought::Message(message) => take_message(core, alloc, moment, lane.session, message),
-        Brought::End(cause) => take_end(core, lane, cause),
+        Brought::Message(message) => {
+            let _ = core.step(alloc, moment, Event::Take(lane.session, message));
+        }
+        Brought::End(cause) => {
+            lane.ended = true;
+            close(core, lane, cause_of(cause));
+        }
     }
 }
 
@@ -202,7 +171,7 @@ pub(crate) fn take<K: Keeper + Drop, D: Draws + Drop>(
         ((item : SpecBrought Message SpecReadCause)
         × (received lane.new.inbound ≡ received lane.old.inbound ++ item ∷ []))
         ((core.new ≡ core.old) × LooksAt lane.old lane.new) }
-    ensures honest { K.is_honest core.new.keeper → K.is_honest core.old.keeper }
+    ensures steady { IsSteady K.is_honest core.old core.new }
 {
     let Ok(item) = lane.inbound.pop() else {
         return false;

@@ -4,15 +4,16 @@ use Rattle.std.specs.Borrow.{Bor}
 use Rattle.std.specs.declared.alloc.Global.{Global}
 use Rattle.std.specs.declared.io.buffered.BufWriter.{BufWriter}
 use Rattle.std.specs.declared.net.tcp.TcpStream.{TcpStream}
-use Rattle.ov_ends.specs.States.{SourceState, source_state, SinkState, sink_state}
+use Rattle.ov_ends.specs.States.{source_state, sink_state}
 use Rattle.ov_ends.specs.declared.watched.Watched.{Watched}
-use Rattle.ov_core.specs.Following.{CoreState}
 use Rattle.ov_lanes.specs.declared.link.Link.{Link}
 use Rattle.ov_lanes.specs.declared.fault.ServeFault.{ServeFault}
 use Rattle.ov_lanes.specs.Pairs.{Pairwise}
 use Rattle.ov_desk.specs.declared.link.End.{End}
 use Rattle.ov_desk.specs.Guests.{ServesGuests}
+use Rattle.ov_desk.specs.LinkStates.{LinkState}
 use Rattle.ov_desk.specs.Serving.{RefusesLinks, ServesAll}
+use Rattle.ov_desk.specs.Timed.{Timed}
 use Rattle.ov_sockets.specs.declared.fault.ListenFault.{ListenFault}
 use Rattle.ov_sockets.specs.Links.{IsLinkOf}
 use Rattle.ov_words.specs.declared.ending.Ending.{Ending}
@@ -26,50 +27,49 @@ SocketReader = Watched (Bor TcpStream)
 abbrev pub SocketWriter : Type 0
 SocketWriter = Watched (BufWriter (Bor TcpStream) Global)
 
--- what contracts see of what reads from a connection: what the system still has of it is not known
-abbrev pub socket_source : {T : Type 0} → Watched T → SourceState
-socket_source w = source_state w.trace.bytes None w.ended w.failures
-
--- and of what writes to it
-abbrev pub socket_sink : {T : Type 0} → Watched T → SinkState
-socket_sink w = sink_state w.trace.bytes None w.flushed w.failures
+-- What contracts see of the two ends of a connection: what the system still has of its bytes is not known.
+abbrev pub socket_ends : {R W : Type 0} → Watched R → Watched W → LinkState
+socket_ends reader writer = record {
+  source = source_state reader.trace.bytes None reader.ended reader.failures;
+  sink = sink_state writer.trace.bytes None writer.flushed writer.failures;
+}
 
 module _ {K D C : Type 0} where
   -- So many connections were not served, the clock told nothing, and the ending is that of the fault: the links could not be
   -- allocated, and the core is as it was; or they were refused, and nothing was read from them or written to them.
-  abbrev pub RefusesConnections : CoreState K D → C → ℕ → Ending → CoreState K D → C → Type 0
-  RefusesConnections old clock count told new clock' =
-      (clock' ≡ clock) × (((told ≡ ending.Memory) × (new ≡ old))
-      ⊎ ((fault : ServeFault) × (told ≡ by_serving fault) × RefusesLinks count old fault new))
+  abbrev pub RefusesConnections : Timed K D C → ℕ → Ending → Timed K D C → Type 0
+  RefusesConnections old count told new =
+      (new.clock ≡ old.clock) × (((told ≡ ending.Memory) × (new.core ≡ old.core))
+      ⊎ ((fault : ServeFault) × (told ≡ by_serving fault) × RefusesLinks count old.core fault new.core))
 
   -- There was no listener or no connection, and nothing was done.
-  abbrev pub FailsToListen : CoreState K D → C → Ending → CoreState K D → C → Type 0
-  FailsToListen old clock told new clock' = (fault : ListenFault) × (told ≡ by_listening fault) × (new ≡ old) × (clock' ≡ clock)
+  abbrev pub FailsToListen : Timed K D C → Ending → Timed K D C → Type 0
+  FailsToListen old told new = (fault : ListenFault) × (told ≡ by_listening fault) × (new.core ≡ old.core) × (new.clock ≡ old.clock)
 
 module _ {K D C : Type 0} (tells : C → ℕ → C → Type 0) where
   -- Each of these connections was served, by a link that was unused before, and this is what remains of the links.
-  pub record ServesConnections (old : CoreState K D) (clock : C) (streams : List TcpStream) (new : CoreState K D) (clock' : C) (ends : List (End SocketReader SocketWriter)) : Type 0 where
+  pub record ServesConnections (old : Timed K D C) (streams : List TcpStream) (new : Timed K D C) (remains : List (End SocketReader SocketWriter)) : Type 0 where
     pub links : List (Link SocketReader SocketWriter)
     pub own : Pairwise IsLinkOf links streams
-    pub served : ServesAll (socket_source {T = Bor TcpStream}) (socket_sink {T = BufWriter (Bor TcpStream) Global}) tells old clock new clock' links ends
+    pub served : ServesAll (socket_ends {R = Bor TcpStream} {W = BufWriter (Bor TcpStream) Global}) tells old new links remains
 
   -- This many connections were served to their ends, which is the end of the input; or they were not served; or there were
   -- fewer.
-  abbrev pub EndsSoMany : CoreState K D → C → ℕ → Ending → CoreState K D → C → Type 0
-  EndsSoMany old clock count told new clock' =
-      ((told ≡ ending.InputEnded) × ((streams : List TcpStream) × (ends : List (End SocketReader SocketWriter))
-      × (length streams ≡ count) × ServesConnections old clock streams new clock' ends))
-      ⊎ (RefusesConnections old clock count told new clock' ⊎ FailsToListen old clock told new clock')
+  abbrev pub EndsSoMany : Timed K D C → ℕ → Ending → Timed K D C → Type 0
+  EndsSoMany old count told new =
+      ((told ≡ ending.InputEnded) × ((streams : List TcpStream) × (remains : List (End SocketReader SocketWriter))
+      × (length streams ≡ count) × ServesConnections old streams new remains))
+      ⊎ (RefusesConnections old count told new ⊎ FailsToListen old told new)
 
   -- Every client that was given a session was served, until no connection could be accepted; or the lobby was refused, no client
   -- was accepted, the ending is that of the fault, and the core is as it was.
-  abbrev pub EndsEveryone : CoreState K D → C → Ending → CoreState K D → C → Type 0
-  EndsEveryone old clock told new clock' =
-      ((told ≡ ending.Streams) × ServesGuests (socket_source {T = TcpStream}) (socket_sink {T = BufWriter TcpStream Global}) tells old clock new clock')
-      ⊎ ((fault : ServeFault) × (told ≡ by_serving fault) × (new ≡ old) × (clock' ≡ clock))
+  abbrev pub EndsEveryone : Timed K D C → Ending → Timed K D C → Type 0
+  EndsEveryone old told new =
+      ((told ≡ ending.Streams) × ServesGuests (socket_ends {R = TcpStream} {W = BufWriter TcpStream Global}) tells old new)
+      ⊎ ((fault : ServeFault) × (told ≡ by_serving fault) × (new.core ≡ old.core) × (new.clock ≡ old.clock))
 
   -- This many connections were served if a number is given, and otherwise every client; or the server could not listen.
-  abbrev pub EndsAddress : CoreState K D → C → Option ℕ → Ending → CoreState K D → C → Type 0
-  EndsAddress old clock count told new clock' =
-      MatchOption count (EndsEveryone old clock told new clock') (λ n. EndsSoMany old clock n told new clock')
-      ⊎ FailsToListen old clock told new clock'
+  abbrev pub EndsAddress : Timed K D C → Option ℕ → Ending → Timed K D C → Type 0
+  EndsAddress old count told new =
+      MatchOption count (EndsEveryone old told new) (λ n. EndsSoMany old n told new)
+      ⊎ FailsToListen old told new

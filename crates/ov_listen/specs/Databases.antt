@@ -1,7 +1,6 @@
 -- What comes of a database: of one in memory, or of the one in a file.
 use Rattle.std.specs.Prelude.{◌≡◌, ◌↔◌, ℕ, List, Result, Ok, Err}
 use Rattle.ov_specs.specs.rows.Cells.{CellLines, Stored}
-use Rattle.ov_specs.specs.values.Uuid.{Uuid}
 use Rattle.ov_keeper.specs.declared.keeper.Keeper.{Ghosts}
 use Rattle.ov_db.specs.declared.fault.RefusedOpen.{RefusedOpen}
 use Rattle.ov_store.specs.Finding.{new_contents}
@@ -10,24 +9,27 @@ use Rattle.ov_words.specs.Causes.{by_open}
 use Rattle.ov_pipes.specs.Pipes.{PipesState}
 use Rattle.ov_listen.specs.declared.place.Ended.{Ended}
 use Rattle.ov_listen.specs.declared.file.FileEnded.{FileEnded}
+use Rattle.ov_listen.specs.declared.place.Offer.{Offer}
 use Rattle.ov_listen.specs.declared.database.Service.{Service}
 use Rattle.ov_listen.specs.declared.database.DatabaseEnded.{DatabaseEnded}
 use Rattle.ov_listen.specs.declared.database.DatabaseEnded.TheVariants.{Memory, File}
-use Rattle.ov_core.specs.Opening.{RefusesCore}
-use Rattle.ov_listen.specs.Places.{ServesPlace}
+use Rattle.ov_listen.specs.Environment.{Environment}
+use Rattle.ov_listen.specs.Places.{ServesPlace, RefusesPlace}
 
 -- it holds just this text of a schema and no row, in format 2, and its device has not failed
 pub record IsNewKeeper {K : Type 0} (k : Ghosts K) (text : List ℕ) (keeper : K) : Type 0 where
   pub found : (contents : Stored) → k.leaves keeper contents ↔ (contents ≡ new_contents text)
   pub fresh : k.failed keeper ≡ 0
 
-module _ {K D C : Type 0} (k : Ghosts K) (drawing : D → Uuid → D → Type 0) (tells : C → ℕ → C → Type 0) where
+-- what a service offers of the database that a keeper holds: all but the text
+abbrev pub offer_of : {D : Type 0} → Service D → Offer D
+offer_of service = record { schema = service.schema; draws = service.draws; place = service.place }
+
+module _ {K D C : Type 0} (e : Environment K D C) where
   -- A core was opened over a new keeper, and its sessions came to that; or none was opened, and nothing is read or written.
   abbrev pub EndsMemory : Service D → PipesState C → Result (Ended K D) (RefusedOpen K) → PipesState C → Type 0
-  EndsMemory service from (Ok ended) to = (keeper : K) × IsNewKeeper k service.text keeper
-      × ServesPlace k drawing tells service.place keeper service.schema service.draws from ended.ending ended.core to
-  EndsMemory service from (Err refused) to = (keeper : K) × IsNewKeeper k service.text keeper
-      × RefusesCore k drawing keeper service.schema service.draws refused × (to ≡ from)
+  EndsMemory service from (Ok ended) to = (keeper : K) × IsNewKeeper e.keeper service.text keeper × ServesPlace e keeper (offer_of service) from ended to
+  EndsMemory service from (Err refused) to = (keeper : K) × IsNewKeeper e.keeper service.text keeper × RefusesPlace e keeper (offer_of service) refused × (to ≡ from)
 
 -- what contracts see of a keeper in memory: the text of its schema, and its rows
 abbrev pub MemoryState : Type 0

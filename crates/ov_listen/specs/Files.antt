@@ -6,35 +6,41 @@ use Rattle.sqlite_disk.specs.declared.Disk as disk
 use Rattle.sqlite_store.specs.declared.store.FileStore.{FileStore}
 use Rattle.sqlite_wal.specs.Recovery.{Image}
 use Rattle.ov_specs.specs.rows.Cells.{Stored}
-use Rattle.ov_specs.specs.schema.SchemaTypes.{Schema}
-use Rattle.ov_specs.specs.values.Uuid.{Uuid}
 use Rattle.ov_keeper.specs.declared.fault.KeepFault.{KeepFault}
-use Rattle.ov_keeper.specs.declared.keeper.Keeper.{Ghosts}
 use Rattle.ov_keeper.specs.Keeping.{IsLoadFault}
 use Rattle.ov_db.specs.declared.fault.RefusedOpen.{RefusedOpen}
 use Rattle.ov_store.specs.Finding.{HasNoTable, IsFileRefused, IsStoredIn, new_contents}
 use Rattle.ov_store.specs.StoreState.{MayFind, StoreState}
 use Rattle.ov_store.specs.Whole.{WasWhole}
-use Rattle.ov_core.specs.Following.{CoreState}
 use Rattle.ov_words.specs.declared.ending.Ending.{Ending}
 use Rattle.ov_words.specs.Causes.{by_keeping, by_open}
 use Rattle.ov_pipes.specs.Pipes.{PipesState}
-use Rattle.ov_listen.specs.declared.place.Place.{Place}
+use Rattle.ov_listen.specs.declared.place.Ended.{Ended}
+use Rattle.ov_listen.specs.declared.place.Offer.{Offer}
 use Rattle.ov_listen.specs.declared.database.Service.{Service}
 use Rattle.ov_listen.specs.declared.file.FileEnded.{FileEnded}
 use Rattle.ov_listen.specs.Endings.{closes_file}
-use Rattle.ov_core.specs.Opening.{RefusesCore}
-use Rattle.ov_listen.specs.Places.{ServesPlace}
+use Rattle.ov_listen.specs.Environment.{Environment}
+use Rattle.ov_listen.specs.Places.{ServesPlace, RefusesPlace}
+use Rattle.ov_listen.specs.Databases.{offer_of}
 
-module _ {K D C : Type 0} (k : Ghosts K) (drawing : D → Uuid → D → Type 0) (tells : C → ℕ → C → Type 0) where
+-- how the sessions of a store ended: with the core that served them, or without a core
+abbrev pub StoreEnded : Type 0 → Type 0 → Type 0
+StoreEnded K D = Result (Ended K D) Ending
+
+-- the ending
+abbrev pub ending_of_store : {K D : Type 0} → StoreEnded K D → Ending
+ending_of_store (Ok ended) = ended.ending
+ending_of_store (Err told) = told
+
+module _ {K D C : Type 0} (e : Environment K D C) where
   -- A store that was opened came to that with its core; or no core was opened over it, or there was no store, the ending is
   -- that of the fault, and nothing is read or written.
-  abbrev pub EndsStore : Place → Schema → D → Result K KeepFault → PipesState C → Ending → Option (CoreState K D) → PipesState C → Type 0
-  EndsStore place schema draws (Ok keeper) from told (Some core) to = ServesPlace k drawing tells place keeper schema draws from told core to
-  EndsStore place schema draws (Ok keeper) from told None to =
-      (to ≡ from) × ((refused : RefusedOpen K) × (told ≡ by_open refused.fault) × RefusesCore k drawing keeper schema draws refused)
-  EndsStore place schema draws (Err fault) from told (Some core) to = ⊥
-  EndsStore place schema draws (Err fault) from told None to = (to ≡ from) × (told ≡ by_keeping fault)
+  abbrev pub EndsStore : Result K KeepFault → Offer D → PipesState C → StoreEnded K D → PipesState C → Type 0
+  EndsStore (Ok keeper) offer from (Ok ended) to = ServesPlace e keeper offer from ended to
+  EndsStore (Ok keeper) offer from (Err told) to = (to ≡ from) × ((refused : RefusedOpen K) × (told ≡ by_open refused.fault) × RefusesPlace e keeper offer refused)
+  EndsStore (Err fault) offer from (Ok ended) to = ⊥
+  EndsStore (Err fault) offer from (Err told) to = (to ≡ from) × (told ≡ by_keeping fault)
 
 module _ {A : Type 0} {g : disk.Ghosts A} where
   -- the store of what the files held, or a new one if they had no table; or why there is none
@@ -46,15 +52,16 @@ module _ {A : Type 0} {g : disk.Ghosts A} where
 
   -- After these endings the store of the core is closed: then the database file was whole, or there is a fault. A store
   -- without a core is not closed.
-  abbrev pub IsClosed : {D : Type 0} → Ending → Option (CoreState (StoreState (FileStore A g)) D) → Option (Result Unit KeepFault) → Type 0
-  IsClosed told (Some core) closing = MatchBool (closes_file told)
-      (IsSomeAnd closing (λ answer. MatchResult answer (λ _. WasWhole core.keeper) IsLoadFault)) (closing ≡ None)
-  IsClosed told None closing = closing ≡ None
+  abbrev pub IsClosed : {D : Type 0} → StoreEnded (StoreState (FileStore A g)) D → Option (Result Unit KeepFault) → Type 0
+  IsClosed (Ok ended) closing = MatchBool (closes_file ended.ending)
+      (IsSomeAnd closing (λ answer. MatchResult answer (λ _. WasWhole ended.core.keeper) IsLoadFault)) (closing ≡ None)
+  IsClosed (Err told) closing = closing ≡ None
 
   -- The files had a store or not, and its sessions came to that. It was closed if it was to be.
-  pub record EndsFile {D C : Type 0} (k : Ghosts (StoreState (FileStore A g))) (drawing : D → Uuid → D → Type 0) (tells : C → ℕ → C → Type 0) (image : Image) (service : Service D) (from : PipesState C) (ended : FileEnded) (to : PipesState C) : Type 0 where
+  pub record EndsFile {D C : Type 0} (e : Environment (StoreState (FileStore A g)) D C) (image : Image) (service : Service D) (from : PipesState C) (file : FileEnded) (to : PipesState C) : Type 0 where
     pub store : Result (StoreState (FileStore A g)) KeepFault
-    pub core : Option (CoreState (StoreState (FileStore A g)) D)
+    pub ended : StoreEnded (StoreState (FileStore A g)) D
     pub opened : IsOfFiles image service.text store
-    pub ends : EndsStore k drawing tells service.place service.schema service.draws store from ended.ending core to
-    pub closed : IsClosed ended.ending core ended.closing
+    pub ends : EndsStore e store (offer_of service) from ended to
+    pub ending : file.ending ≡ ending_of_store ended
+    pub closed : IsClosed ended file.closing

@@ -1,4 +1,5 @@
 ghost use Rattle.std.specs.Prelude.{◌≡◌};
+ghost use Rattle.ov_desk.specs.Timed.{with_clock};
 ghost use Rattle.ov_listen.specs.Connections.{EndsAddress};
 
 use crate::connections::serve_so_many;
@@ -35,7 +36,8 @@ where
     K: Keeper + Drop,
     D: Draws + Drop,
     C: Clock,
-    ensures ends { EndsAddress C.tells core clock.old count result.ending result.core clock.new }
+    ensures ends { EndsAddress C.tells (with_clock core clock.old) count result.ending
+        (with_clock result.core clock.new) }
     ensures honest { K.is_honest result.core.keeper → K.is_honest core.keeper }
 {
     match listening(rt, alloc, address) {

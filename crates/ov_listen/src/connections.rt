@@ -1,4 +1,5 @@
 ghost use Rattle.std.specs.Prelude.{◌≡◌, IfOk, IfErr, length, vec_len};
+ghost use Rattle.ov_desk.specs.Timed.{with_clock};
 ghost use Rattle.ov_listen.specs.Connections.{EndsSoMany, RefusesConnections, ServesConnections};
 
 use crate::endings::{ending_of_listening, ending_of_serving};
@@ -35,11 +36,11 @@ where
     D: Draws + Drop,
     C: Clock,
     ensures served { IfOk result
-        (λ served. ServesConnections C.tells core clock.old streams.entry.now.items served.desk.core
-        clock.new served.ends.items) }
+        (λ served. ServesConnections C.tells (with_clock core clock.old) streams.entry.now.items
+        (with_clock served.desk.core clock.new) served.ends.items) }
     ensures refused { IfErr result
-        (λ ended. RefusesConnections core clock.old (vec_len streams.entry.now) ended.ending
-        ended.core clock.new) }
+        (λ ended. RefusesConnections (with_clock core clock.old) (vec_len streams.entry.now)
+        ended.ending (with_clock ended.core clock.new)) }
     ensures honest { IfOk result (λ served. K.is_honest served.desk.core.keeper
         → K.is_honest core.keeper) }
     ensures honest_refused { IfErr result (λ ended. K.is_honest ended.core.keeper
@@ -96,7 +97,8 @@ where
     K: Keeper + Drop,
     D: Draws + Drop,
     C: Clock,
-    ensures ends { EndsSoMany C.tells core clock.old count result.ending result.core clock.new }
+    ensures ends { EndsSoMany C.tells (with_clock core clock.old) count result.ending
+        (with_clock result.core clock.new) }
     ensures honest { K.is_honest result.core.keeper → K.is_honest core.keeper }
 {
     let streams = match connected(alloc, listener, count) {

@@ -5,9 +5,10 @@ ghost use Rattle.sqlite_wal.specs.Files.{image_at};
 ghost use Rattle.ov_pipes.specs.Pipes.{state_of};
 ghost use Rattle.ov_listen.specs.Databases.{EndsMemory, IsInFile, IsInMemory, ending_of};
 ghost use Rattle.ov_listen.specs.Files.{EndsFile};
+ghost use Rattle.ov_listen.specs.Environment.{environment_of};
 
 use crate::file::{FileEnded, serve_file};
-use crate::place::{Ended, Place, serve_place};
+use crate::place::{Ended, Offer, Place, serve_place};
 use crate::system::System;
 use ov_base::Text;
 use ov_core::Schema;
@@ -73,7 +74,7 @@ where
     S: Source,
     W: Sink,
     C: Clock,
-    ensures ends { EndsMemory ⟦<VolatileKeeper as Keeper>⟧ D.draws C.tells service
+    ensures ends { EndsMemory (environment_of ⟦<VolatileKeeper as Keeper>⟧ D.draws C.tells) service
         (state_of S.Source W.Sink pipes.old) result (state_of S.Source W.Sink pipes.new) }
     ensures honest { (keeper : _) → ⟦<VolatileKeeper as Keeper>⟧.is_honest keeper }
 {
@@ -87,9 +88,11 @@ where
         rt,
         alloc,
         VolatileKeeper::new(text),
-        schema,
-        draws,
-        place,
+        Offer {
+            schema,
+            draws,
+            place,
+        },
         pipes,
     )
 }
@@ -112,11 +115,13 @@ where
     W: Sink,
     C: Clock,
     ensures memory { IfNone path
-        (IsInMemory result (λ ended. EndsMemory ⟦<VolatileKeeper as Keeper>⟧ D.draws C.tells service
+        (IsInMemory result
+        (λ ended. EndsMemory (environment_of ⟦<VolatileKeeper as Keeper>⟧ D.draws C.tells) service
         (state_of S.Source W.Sink pipes.old) ended (state_of S.Source W.Sink pipes.new))) }
     ensures file { IfSome path
         (λ _. IsInFile result
-        (λ ended. EndsFile ⟦<Store<FileStore<FileFrom<T>>> as Keeper>⟧ D.draws C.tells
+        (λ ended. EndsFile
+        (environment_of ⟦<Store<FileStore<FileFrom<T>>> as Keeper>⟧ D.draws C.tells)
         (image_at T.Start) service
         (state_of S.Source W.Sink pipes.old) ended (state_of S.Source W.Sink pipes.new))) }
 {

@@ -1,4 +1,5 @@
 ghost use Rattle.std.specs.Prelude.{◌≡◌};
+ghost use Rattle.ov_desk.specs.Timed.{with_clock};
 ghost use Rattle.ov_listen.specs.Connections.{EndsEveryone};
 
 use crate::endings::ending_of_serving;
@@ -31,7 +32,8 @@ where
     K: Keeper + Drop,
     D: Draws + Drop,
     C: Clock,
-    ensures ends { EndsEveryone C.tells core clock.old result.ending result.core clock.new }
+    ensures ends { EndsEveryone C.tells (with_clock core clock.old) result.ending
+        (with_clock result.core clock.new) }
     ensures honest { K.is_honest result.core.keeper → K.is_honest core.keeper }
 {
     let clients = Clients::new(alloc, listener);

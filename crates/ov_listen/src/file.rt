@@ -4,12 +4,12 @@ ghost use Rattle.std.specs.Prelude.{◌≡◌};
 ghost use Rattle.sqlite_wal.specs.Files.{image_at};
 ghost use Rattle.ov_pipes.specs.Pipes.{state_of};
 ghost use Rattle.ov_listen.specs.Files.{EndsFile, EndsStore};
+ghost use Rattle.ov_listen.specs.Environment.{environment_of};
 
 use crate::database::Service;
 use crate::endings::closes_file;
-use crate::place::{Ended, Place, serve_place};
+use crate::place::{Ended, Offer, serve_place};
 use crate::system::System;
-use ov_core::{Core, Schema};
 use ov_ends::{Clock, Sink, Source};
 use ov_keeper::{KeepFault, Keeper};
 use ov_pipes::Pipes;
@@ -27,17 +27,15 @@ pub struct FileEnded {
     pub closing: Option<Result<(), KeepFault>>,
 }
 
-/// Serves sessions of a store, if it could be opened, and returns how they ended and the machine that served them, if it was
-/// opened.
+/// Serves sessions of a store, if it could be opened, and returns how they ended and the machine that served them; or the
+/// ending alone, if no machine was opened.
 fn serve_store<R, K, D, S, W, C>(
     rt: &R,
     alloc: Global,
     store: Result<K, KeepFault>,
-    schema: Schema,
-    draws: D,
-    place: Place,
+    offer: Offer<D>,
     pipes: &mut Pipes<S, W, C>,
-) -> (Ending, Option<Core<K, D>>)
+) -> Result<Ended<K, D>, Ending>
 where
     R: System,
     K: Keeper + Drop,
@@ -45,20 +43,16 @@ where
     S: Source,
     W: Sink,
     C: Clock,
-    ensures { EndsStore K.Keeper D.draws C.tells place schema draws store
-        (state_of S.Source W.Sink pipes.old) result.0 result.1
-        (state_of S.Source W.Sink pipes.new) }
+    ensures { EndsStore (environment_of K.Keeper D.draws C.tells) store offer
+        (state_of S.Source W.Sink pipes.old) result (state_of S.Source W.Sink pipes.new) }
 {
     let keeper = match store {
         Ok(keeper) => keeper,
-        Err(fault) => return (ending_of_keeping(fault), None),
+        Err(fault) => return Err(ending_of_keeping(fault)),
     };
-    match serve_place(rt, alloc, keeper, schema, draws, place, pipes) {
-        Ok(ended) => {
-            let Ended { ending, core } = ended;
-            (ending, Some(core))
-        }
-        Err(refused) => (ending_of_open(refused.fault), None),
+    match serve_place(rt, alloc, keeper, offer, pipes) {
+        Ok(ended) => Ok(ended),
+        Err(refused) => Err(ending_of_open(refused.fault)),
     }
 }
 
@@ -84,7 +78,7 @@ where
     S: Source,
     W: Sink,
     C: Clock,
-    ensures { EndsFile ⟦<Store<FileStore<FileFrom<T>>> as Keeper>⟧ D.draws C.tells
+    ensures { EndsFile (environment_of ⟦<Store<FileStore<FileFrom<T>>> as Keeper>⟧ D.draws C.tells)
         (image_at T.Start) service (state_of S.Source W.Sink pipes.old) result
         (state_of S.Source W.Sink pipes.new) }
 {
@@ -95,12 +89,19 @@ where
         place,
     } = service;
     let store = store_in_file(host, path, text, start);
-    let (ending, core) = serve_store(rt, host.alloc(), store, schema, draws, place, pipes);
-    let Some(core) = core else {
-        return FileEnded {
-            ending,
-            closing: None,
-        };
+    let offer = Offer {
+        schema,
+        draws,
+        place,
+    };
+    let Ended { ending, core } = match serve_store(rt, host.alloc(), store, offer, pipes) {
+        Ok(ended) => ended,
+        Err(ending) => {
+            return FileEnded {
+                ending,
+                closing: None,
+            };
+        }
     };
     if !closes_file(ending) {
         return FileEnded {

@@ -16,5 +16,5 @@ pub use connections::serve_connections;
 pub use database::{DatabaseEnded, Service, serve_database, serve_memory};
 pub use endings::{closes_file, ending_of_listening, ending_of_serving};
 pub use file::{FileEnded, serve_file};
-pub use place::{Ended, Place, serve_place};
+pub use place::{Ended, Offer, Place, serve_place};
 pub use system::System;

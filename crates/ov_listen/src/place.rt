@@ -2,8 +2,9 @@
 
 ghost use Rattle.std.specs.Prelude.{◌≡◌, IfOk, IfErr, OnErr};
 ghost use Rattle.ov_pipes.specs.Pipes.{state_of};
-ghost use Rattle.ov_core.specs.Opening.{RefusesCore};
-ghost use Rattle.ov_listen.specs.Places.{EndsPlace, ServesPlace};
+ghost use Rattle.ov_pipes.specs.Session.{server_over};
+ghost use Rattle.ov_listen.specs.Environment.{environment_of};
+ghost use Rattle.ov_listen.specs.Places.{EndsPlace, RefusesPlace, ServesPlace};
 
 use crate::address::serve_at;
 use crate::system::System;
@@ -26,6 +27,17 @@ pub enum Place {
     Address(Text, Option<usize>),
 }
 
+/// What is offered of the database that a keeper holds.
+#[derive(Drop)]
+pub struct Offer<D> {
+    /// The schema.
+    pub schema: Schema,
+    /// Where new identifiers come from.
+    pub draws: D,
+    /// Where sessions are served.
+    pub place: Place,
+}
+
 /// How sessions ended, and the machine that served them.
 #[derive(Drop)]
 pub struct Ended<K: Keeper, D: Draws> {
@@ -33,16 +45,14 @@ pub struct Ended<K: Keeper, D: Draws> {
     pub core: Core<K, D>,
 }
 
-/// Opens the machine over what a keeper holds under a schema, and serves sessions of it: one over the pipes, or those at an
+/// Opens the machine over what a keeper holds under the schema, and serves sessions of it: one over the pipes, or those at an
 /// address, as `serve_at` does, by the clock of the pipes. If the machine is not opened, nothing is read or written, and the
 /// server does not listen.
 pub fn serve_place<R, K, D, S, W, C>(
     rt: &R,
     alloc: Global,
     keeper: K,
-    schema: Schema,
-    draws: D,
-    place: Place,
+    offer: Offer<D>,
     pipes: &mut Pipes<S, W, C>,
 ) -> Result<Ended<K, D>, RefusedOpen<K>>
 where
@@ -53,13 +63,17 @@ where
     W: Sink,
     C: Clock,
     ensures served { IfOk result
-        (λ ended. ServesPlace K.Keeper D.draws C.tells place keeper schema draws
-        (state_of S.Source W.Sink pipes.old) ended.ending ended.core
-        (state_of S.Source W.Sink pipes.new)) }
+        (λ ended. ServesPlace (environment_of K.Keeper D.draws C.tells) keeper offer
+        (state_of S.Source W.Sink pipes.old) ended (state_of S.Source W.Sink pipes.new)) }
     ensures refused { IfErr result
-        (λ refused. RefusesCore K.Keeper D.draws keeper schema draws refused) }
+        (λ refused. RefusesPlace (environment_of K.Keeper D.draws C.tells) keeper offer refused) }
     ensures untouched { OnErr result (pipes.new ≡ pipes.old) }
 {
+    let Offer {
+        schema,
+        draws,
+        place,
+    } = offer;
     match Core::open(alloc, keeper, schema, draws) {
         Ok(core) => {
             let ended = serve_core(rt, alloc, core, place, pipes);
@@ -86,8 +100,9 @@ where
     S: Source,
     W: Sink,
     C: Clock,
-    ensures ends { EndsPlace C.tells place core (state_of S.Source W.Sink pipes.old) result.ending
-        result.core (state_of S.Source W.Sink pipes.new) }
+    ensures ends { EndsPlace C.tells place
+        (server_over core (state_of S.Source W.Sink pipes.old)) result.ending
+        (server_over result.core (state_of S.Source W.Sink pipes.new)) }
     ensures honest { K.is_honest result.core.keeper → K.is_honest core.keeper }
 {
     match place {

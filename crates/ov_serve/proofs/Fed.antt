@@ -10,7 +10,7 @@ use Rattle.ov_cut.specs.CutterState.{CutterState}
 use Rattle.ov_history.specs.declared.event.Stepped.TheVariants as answer
 use Rattle.ov_core.specs.Following.{CoreState, Extends}
 use Rattle.ov_core.specs.Stepping.{IsEntered}
-use Rattle.ov_streams.specs.Feeding.{IsFed, EntersPiece}
+use Rattle.ov_streams.specs.Feeding.{IsFed, FedPiece, EntersPiece, fed_piece}
 use Rattle.ov_streams.proofs.Entering.{enters_more}
 use Rattle.ov_core.specs.Passing.{is_due, TicksIf}
 use Rattle.ov_serve.specs.Serving.{Piece, piece_events, PassesWhereDue}
@@ -43,17 +43,27 @@ passed_if draws false at old new due same = same
 abbrev pub piece_of : ℕ → List ℕ → Bool → Piece
 piece_of at bytes ticks = record { moment = at; bytes = bytes; ticks = ticks }
 
--- What the piece makes of the core, after the entries h that led to it from the state before.
-pub record PieceMakes {K D : Type 0} (n : ℕ) (before : State) (h : List machine.Entry) (streams : Streams) (stream : List ℕ) (p : Piece) (a b : CoreState K D) (cutter : CutterState) : Type 0 where
+-- what led to a piece: the state before the session, the entries since, and the streams that were fed
+pub record Past : Type 0 where
+  pub before : State
+  pub entries : List machine.Entry
+  pub streams : Streams
+
+-- these
+abbrev pub led_to : State → List machine.Entry → Streams → Past
+led_to before entries streams = record { before = before; entries = entries; streams = streams }
+
+-- What the piece makes of the core: it came as p, after what led to it.
+pub record PieceMakes {K D : Type 0} (led : Past) (piece : FedPiece) (p : Piece) (a b : CoreState K D) (cutter : CutterState) : Type 0 where
   pub entries : List machine.Entry
   pub enters : Extends a entries b
-  pub expands : ExpandsTimed a.state streams (piece_events n p) entries b.state (with_fed streams n p.bytes)
-  pub passes : PassesWhereDue before (h ++ entries)
-  pub stands : StandsAfter n before (h ++ entries) b.state
-  pub fed : is_open b.state n ≡ true → IsFed (stream ++ p.bytes) cutter
+  pub expands : ExpandsTimed a.state led.streams (piece_events piece.session p) entries b.state (with_fed led.streams piece.session p.bytes)
+  pub passes : PassesWhereDue led.before (led.entries ++ entries)
+  pub stands : StandsAfter piece.session led.before (led.entries ++ entries) b.state
+  pub fed : is_open b.state piece.session ≡ true → IsFed (piece.stream ++ p.bytes) cutter
 
 module _ {K D : Type 0} (at n : ℕ) (before : State) (h : List machine.Entry) (streams : Streams) (stream piece : List ℕ) (a mid : CoreState K D) (cutter : CutterState)
-    (there : is_open a.state n ≡ true) (is : streams n ≡ stream) (after : StandsAfter n before h a.state) (first : PassesWhereDue before h) (brings : EntersPiece at n stream piece a mid cutter) where
+    (there : is_open a.state n ≡ true) (is : streams n ≡ stream) (after : StandsAfter n before h a.state) (first : PassesWhereDue before h) (brings : EntersPiece at (fed_piece n stream piece) a mid cutter) where
   -- the piece alone
   fed_expands : ExpandsTimed a.state streams ((at, Feed n piece) ∷ []) brings.entries mid.state (with_fed streams n piece)
   fed_expands =
@@ -69,11 +79,11 @@ module _ {K D : Type 0} (at n : ℕ) (before : State) (h : List machine.Entry) (
       passes_on before h brings.entries a.state (after.sent, after.leads) first
       (fed_passes at a.state n brings.messages (asked (stream ++ piece)).damaged brings.entries mid.state brings.feeds)
 
-  fed_alone : PieceMakes n before h streams stream (piece_of at piece false) a mid cutter
+  fed_alone : PieceMakes (led_to before h streams) (fed_piece n stream piece) (piece_of at piece false) a mid cutter
   fed_alone = record { entries = brings.entries; enters = brings.enters; expands = fed_expands; passes = piece_passes; stands = fed_stands; fed = brings.goes_on }
 
   -- and then time passes
-  fed_and_passed : (b : CoreState K D) → is_open mid.state n ≡ true → PassesDue at mid b → PieceMakes n before h streams stream (piece_of at piece true) a b cutter
+  fed_and_passed : (b : CoreState K D) → is_open mid.state n ≡ true → PassesDue at mid b → PieceMakes (led_to before h streams) (fed_piece n stream piece) (piece_of at piece true) a b cutter
   fed_and_passed b still k =
       let fed' : Streams = with_fed streams n piece in
       record {
@@ -92,6 +102,6 @@ module _ {K D : Type 0} (at n : ℕ) (before : State) (h : List machine.Entry) (
         fed = λ open'. brings.goes_on still;
       }
 
-  pub makes : (b : CoreState K D) (ticks : Bool) → PassesIf ticks at mid b → (ticks ≡ true → is_open mid.state n ≡ true) → PieceMakes n before h streams stream (piece_of at piece ticks) a b cutter
+  pub makes : (b : CoreState K D) (ticks : Bool) → PassesIf ticks at mid b → (ticks ≡ true → is_open mid.state n ≡ true) → PieceMakes (led_to before h streams) (fed_piece n stream piece) (piece_of at piece ticks) a b cutter
   makes b true passes still = fed_and_passed b (still refl) passes
-  makes b false passes still = subst (λ (v : CoreState K D). PieceMakes n before h streams stream (piece_of at piece false) a v cutter) (sym passes) fed_alone
+  makes b false passes still = subst (λ (v : CoreState K D). PieceMakes (led_to before h streams) (fed_piece n stream piece) (piece_of at piece false) a v cutter) (sym passes) fed_alone

@@ -25,10 +25,11 @@ use Rattle.ov_core.specs.Following.{CoreState, Follows, Extends, and_all_handed}
 use Rattle.ov_history.specs.History.{KeepsNewest}
 use Rattle.ov_core.specs.Stepping.{closing, Closes}
 use Rattle.ov_history.proofs.Histories.{keeps_last}
-use Rattle.ov_streams.specs.Feeding.{IsFed}
-use Rattle.ov_serve.specs.Serving.{IoState, io_state, ExtendsHanding, Piece, Pieces, most_piece_bytes, bytes_of, piece_events, events_of, TellsMoments, IsCauseIn, ClosesAfter, ClosesFor, is_written, EndsAs, Served}
+use Rattle.ov_streams.specs.Feeding.{IsFed, fed_piece}
+use Rattle.ov_serve.specs.Serving.{ServerState, ExtendsHanding, Piece, Pieces, most_piece_bytes, bytes_of, piece_events, events_of, TellsMoments, IsCauseIn, ClosesAfter, ClosesFor, is_written, EndsAs, Served}
+use Rattle.ov_ends.specs.States.{SourceState, SinkState}
 use Rattle.ov_ends.specs.Writing.{WritesOf}
-use Rattle.ov_serve.specs.Progress.{Sends, stream_cause, IsShut, StandsAfter, ServesPiece, ServedSoFar, ServedAndFed}
+use Rattle.ov_serve.specs.Progress.{Sends, stream_cause, IsShut, StandsAfter, timed_core, ServesPiece, ServedSoFar, ServedAndFed}
 use Rattle.ov_serve.proofs.Unopened.{close_spares, close_of_open, next_is_unopened}
 use Rattle.ov_serve.proofs.Closings.{not_closed, is_shut, closed_by_closing, stream_cause_is}
 use Rattle.ov_serve.proofs.Fed.{piece_of, makes}
@@ -70,7 +71,7 @@ writes_of_all false frames waits all said said' is none (some, told, (others, be
 -- what a history from an opening says, by the frames that were handed out
 ends_as : {K D : Type 0} (n : ℕ) (cause : Cause) (old new : CoreState K D) (schema : Schema) (database : Database) (history entries : List machine.Entry) (given : ℕ → List (List ℕ)) (frames : List (List ℕ)) (said said' : List ℕ) → n ≡ old.state.next
     → Follows (opening schema database) history given old → Follows (opening schema database) (history ++ entries) (and_all_handed given n frames) new → WritesOf (is_written cause) (joined frames) said said' → (is_written cause ≡ true → waiting_for n new.outbox ≡ [])
-    → IsCauseIn cause (closed_by old.state entries n) → EndsAs n cause schema database (history ++ entries) said said'
+    → IsCauseIn cause (closed_by old.state entries n) → EndsAs (opening schema database) (history ++ entries) n cause said said'
 ends_as n cause old new schema database history entries given frames said said' serial f f' written none_left told =
     let reached : machine.Stepped = record { state = old.state; sent = f.sent } in
     let to_come = next_is_unopened schema database history reached n serial f.legal in
@@ -83,80 +84,80 @@ ends_as n cause old new schema database history entries given frames said said' 
       told = subst (IsCauseIn cause) (sym cause_is) told;
     }
 
-module _ {K D C : Type 0} (tells : C → ℕ → C → Type 0) (n : ℕ) (old : CoreState K D) (from : IoState C) where
+module _ {K D C : Type 0} (tells : C → ℕ → C → Type 0) (n : ℕ) (old : ServerState K D C) where
   -- all that waited was written, or a beginning of it
-  pub then_sent : (is_whole : Bool) (a b : CoreState K D) (to : IoState C) (said : List ℕ) → ServedSoFar tells n true old from a to → Sends n is_whole a b to.written said → b.state ≡ a.state
-      → ServedSoFar tells n is_whole old from b (io_state to.read said to.clock)
-  then_sent is_whole a b to said done sends same = record {
+  pub then_sent : (is_whole : Bool) (a : ServerState K D C) (b : CoreState K D) (writer : SinkState) → ServedSoFar tells n true old a → Sends n is_whole a.core b a.writer.written writer.written → b.state ≡ a.core.state
+      → ServedSoFar tells n is_whole old (record a { core = b; writer = writer })
+  then_sent is_whole a b writer done sends same = record {
     entries = done.entries;
     frames = done.frames ++ sends.frames;
     pieces = done.pieces;
     streams = done.streams;
-    extends = goes_on_handing n old a b done.entries done.frames sends.frames done.extends sends.extends;
+    extends = goes_on_handing n old.core a.core b done.entries done.frames sends.frames done.extends sends.extends;
     read = done.read;
-    written = subst (λ (bytes : List ℕ). WritesOf is_whole bytes from.written said) (sym (joined-append done.frames sends.frames)) (writes_on is_whole (joined done.frames) (joined sends.frames) from.written to.written said done.written sends.written);
-    expands = subst (λ (s : State). ExpandsTimed old.state no_streams (events_of n done.pieces) done.entries s done.streams) (sym same) done.expands;
+    written = subst (λ (bytes : List ℕ). WritesOf is_whole bytes old.writer.written writer.written) (sym (joined-append done.frames sends.frames)) (writes_on is_whole (joined done.frames) (joined sends.frames) old.writer.written a.writer.written writer.written done.written sends.written);
+    expands = subst (λ (s : State). ExpandsTimed old.core.state no_streams (events_of n done.pieces) done.entries s done.streams) (sym same) done.expands;
     stream = done.stream;
     ticks = done.ticks;
     sizes = done.sizes;
     moments = done.moments;
     serial = done.serial;
-    stands = subst (λ (s : State). StandsAfter n old.state done.entries s) (sym same) done.stands;
+    stands = subst (λ (s : State). StandsAfter n old.core.state done.entries s) (sym same) done.stands;
   }
 
   -- all that waited was written, and the cutter was given nothing more
-  pub then_sent_on : (a b : CoreState K D) (to : IoState C) (said : List ℕ) (cutter : CutterState) → ServedAndFed tells n old from a to cutter → Sends n true a b to.written said → b.state ≡ a.state
-      → ServedAndFed tells n old from b (io_state to.read said to.clock) cutter
+  pub then_sent_on : (a : ServerState K D C) (b : CoreState K D) (writer : SinkState) (cutter : CutterState) → ServedAndFed tells n old a cutter → Sends n true a.core b a.writer.written writer.written → b.state ≡ a.core.state
+      → ServedAndFed tells n old (record a { core = b; writer = writer }) cutter
   unfolding then_sent
-  then_sent_on a b to said cutter on sends same = record {
-    done = then_sent true a b to said on.done sends same;
+  then_sent_on a b writer cutter on sends same = record {
+    done = then_sent true a b writer on.done sends same;
     fed = λ there. on.fed (ap (λ (s : State). is_open s n) (sym same) ∙ there);
   }
 
   -- a piece was read and entered, and time passed after it, or not
-  pub then_fed : (a b : CoreState K D) (to : IoState C) (piece heard : List ℕ) (clock : C) (is_all : Bool) (cutter : CutterState) → is_open a.state n ≡ true → (done : ServedSoFar tells n true old from a to)
-      → length piece ≤ most_piece_bytes → heard ≡ to.read ++ piece → ServesPiece tells n (bytes_of done.pieces) piece a to.clock is_all b clock cutter
-      → ServedAndFed tells n old from b (io_state heard to.written clock) cutter
-  then_fed a b to piece heard clock is_all cutter there done short read serves =
+  pub then_fed : (a : ServerState K D C) (b : CoreState K D) (piece : List ℕ) (reader : SourceState) (clock : C) (is_all : Bool) (cutter : CutterState) → is_open a.core.state n ≡ true → (done : ServedSoFar tells n true old a)
+      → length piece ≤ most_piece_bytes → reader.read ≡ a.reader.read ++ piece → ServesPiece tells (fed_piece n (bytes_of done.pieces) piece) (timed_core a.core a.clock) is_all (timed_core b clock) cutter
+      → ServedAndFed tells n old (record a { core = b; reader = reader; clock = clock }) cutter
+  then_fed a b piece reader clock is_all cutter there done short read serves =
       let p : Piece = piece_of serves.at piece serves.ticks in
-      let made = makes serves.at n old.state done.entries done.streams (bytes_of done.pieces) piece a serves.mid cutter there done.stream done.stands done.ticks serves.enters b serves.ticks serves.passes serves.still in
+      let made = makes serves.at n old.core.state done.entries done.streams (bytes_of done.pieces) piece a.core serves.mid cutter there done.stream done.stands done.ticks serves.enters b serves.ticks serves.passes serves.still in
       record {
         done = record {
           entries = done.entries ++ made.entries;
           frames = done.frames;
           pieces = done.pieces ++ p ∷ [];
           streams = with_fed done.streams n piece;
-          extends = goes_on_entering n old a b done.entries made.entries done.frames done.extends made.enters;
-          read = read ∙ (ap (λ (bytes : List ℕ). bytes ++ piece) done.read ∙ (append_assoc from.read (bytes_of done.pieces) piece ∙ ap (λ (bytes : List ℕ). from.read ++ bytes) (sym (bytes_of-more done.pieces p))));
+          extends = goes_on_entering n old.core a.core b done.entries made.entries done.frames done.extends made.enters;
+          read = read ∙ (ap (λ (bytes : List ℕ). bytes ++ piece) done.read ∙ (append_assoc old.reader.read (bytes_of done.pieces) piece ∙ ap (λ (bytes : List ℕ). old.reader.read ++ bytes) (sym (bytes_of-more done.pieces p))));
           written = done.written;
           expands =
-              subst (λ (l : List (ℕ × StreamEvent)). ExpandsTimed old.state no_streams l (done.entries ++ made.entries) b.state (with_fed done.streams n piece)) (sym (events_of-more n done.pieces p))
-              (one_after_another old.state no_streams (events_of n done.pieces) done.entries a.state done.streams (piece_events n p) made.entries b.state (with_fed done.streams n piece) done.expands made.expands);
+              subst (λ (l : List (ℕ × StreamEvent)). ExpandsTimed old.core.state no_streams l (done.entries ++ made.entries) b.state (with_fed done.streams n piece)) (sym (events_of-more n done.pieces p))
+              (one_after_another old.core.state no_streams (events_of n done.pieces) done.entries a.core.state done.streams (piece_events n p) made.entries b.state (with_fed done.streams n piece) done.expands made.expands);
           stream = fed_own done.streams n piece ∙ (ap (λ (bytes : List ℕ). bytes ++ piece) done.stream ∙ sym (bytes_of-more done.pieces p));
           ticks = made.passes;
           sizes = All-push (λ (q : Piece). length q.bytes ≤ most_piece_bytes) done.pieces p done.sizes short;
-          moments = told_more tells from.clock to.clock clock done.pieces p done.moments serves.told;
+          moments = told_more tells old.clock a.clock clock done.pieces p done.moments serves.told;
           serial = done.serial;
           stands = made.stands;
         };
         fed = λ open'. subst (λ (bytes : List ℕ). IsFed bytes cutter) (sym (bytes_of-more done.pieces p)) (made.fed open');
       }
 
-  -- the session is closed, by a last entry or without one
-  pub then_served : (a b : CoreState K D) (to : IoState C) (cause : Cause) (last : List machine.Entry) → (done : ServedSoFar tells n (is_written cause) old from a to) → Extends a last b → ClosesFor n cause a.state last b.state → is_open b.state n ≡ false
-      → (is_written cause ≡ true → waiting_for n b.outbox ≡ [])
-      → ((before : State) (history : List machine.Entry) (given : ℕ → List (List ℕ)) → Follows before history given old → IsCauseIn cause (closed_by old.state (done.entries ++ last) n)) → Served tells n old from cause b to
-  then_served a b to cause last done enters closes shut none_left told = record {
+  -- the session is closed, by a last entry or without one, and nothing more was read
+  pub then_served : (a : ServerState K D C) (b : CoreState K D) (reader : SourceState) (cause : Cause) (last : List machine.Entry) → reader.read ≡ a.reader.read → (done : ServedSoFar tells n (is_written cause) old a) → Extends a.core last b
+      → ClosesFor n cause a.core.state last b.state → is_open b.state n ≡ false → (is_written cause ≡ true → waiting_for n b.outbox ≡ [])
+      → ((before : State) (history : List machine.Entry) (given : ℕ → List (List ℕ)) → Follows before history given old.core → IsCauseIn cause (closed_by old.core.state (done.entries ++ last) n)) → Served tells n old cause (record a { core = b; reader = reader })
+  then_served a b reader cause last same done enters closes shut none_left told = record {
     entries = done.entries ++ last;
     frames = done.frames;
     pieces = done.pieces;
-    extends = goes_on_entering n old a b done.entries last done.frames done.extends enters;
-    read = done.read;
+    extends = goes_on_entering n old.core a.core b done.entries last done.frames done.extends enters;
+    read = same ∙ done.read;
     sizes = done.sizes;
     moments = done.moments;
     front = done.entries;
     last = last;
-    mid = a.state;
+    mid = a.core.state;
     streams = done.streams;
     parts = refl;
     expands = done.expands;
@@ -167,7 +168,7 @@ module _ {K D C : Type 0} (tells : C → ℕ → C → Type 0) (n : ℕ) (old : 
     written = done.written;
     none_left = none_left;
     ends = λ schema database history given f.
-        ends_as n cause old b schema database history (done.entries ++ last) given done.frames from.written to.written done.serial f ((goes_on_entering n old a b done.entries last done.frames done.extends enters).follows (opening schema database) history given f) done.written none_left
+        ends_as n cause old.core b schema database history (done.entries ++ last) given done.frames old.writer.written a.writer.written done.serial f ((goes_on_entering n old.core a.core b done.entries last done.frames done.extends enters).follows (opening schema database) history given f) done.written none_left
         (told (opening schema database) history given f);
   }
 
@@ -218,45 +219,44 @@ found_cause n old a cause entries frames extends stands gone finds =
     let kept = keeps_last old.kept a.kept shut.front shut.last (subst (λ (l : List machine.Entry). KeepsNewest old.kept l a.kept) shut.parts extends.keeps) in
     within.1 ∙ ap (λ c. Some c) (sym (finds kept.0 shut.last kept.1))
 
-module _ {K D C : Type 0} (tells : C → ℕ → C → Type 0) (n : ℕ) (old : CoreState K D) (from : IoState C) (a b : CoreState K D) (to : IoState C) where
+module _ {K D C : Type 0} (tells : C → ℕ → C → Type 0) (n : ℕ) (old a : ServerState K D C) (b : CoreState K D) where
   -- the open session was closed because of its reader, which gave nothing more
-  pub by_reader : (cause : Cause) (closed : Bool) (heard : List ℕ) → is_written cause ≡ true → ((s t : State) (last : List machine.Entry) → ClosesAfter n (cause_view cause) s last t → ClosesFor n cause s last t)
-      → ((o : Option machine.Cause) → o ≡ Some (cause_view cause) → IsCauseIn cause o) → is_open a.state n ≡ true → ServedSoFar tells n true old from a to → waiting_for n a.outbox ≡ []
-      → heard ≡ to.read → MatchBool closed (Closes a.state.moment n (cause_view cause) a b) ((b ≡ a) × (is_open a.state n ≡ false)) → Served tells n old from cause b (io_state heard to.written to.clock)
-  by_reader cause true heard w for told there done empty same k =
-      let shut : machine.Entry = closing a.state.moment n (cause_view cause) in
-      let d : ServedSoFar tells n (is_written cause) old from a to = subst (λ (v : Bool). ServedSoFar tells n v old from a to) (sym w) done in
-      subst (λ (bytes : List ℕ). Served tells n old from cause b (io_state bytes to.written to.clock)) (sym same)
-      (then_served tells n old from a b to cause (shut ∷ []) d
-      k.moves.follows (for a.state b.state (shut ∷ []) (closes_after n (cause_view cause) a b k)) k.shut
-      (λ _. waits_as_before a.state.moment n (cause_view cause) a b k ∙ empty)
-      (λ before history given f. told (closed_by old.state (d.entries ++ shut ∷ []) n) (closed_at_last a.state.moment n (cause_view cause) old.state d.entries a b d.stands there k)))
-  by_reader cause false heard w for told there done empty same k = absurd (false≢true (sym k.1 ∙ there))
+  pub by_reader : (cause : Cause) (closed : Bool) (reader : SourceState) → is_written cause ≡ true → ((s t : State) (last : List machine.Entry) → ClosesAfter n (cause_view cause) s last t → ClosesFor n cause s last t)
+      → ((o : Option machine.Cause) → o ≡ Some (cause_view cause) → IsCauseIn cause o) → is_open a.core.state n ≡ true → ServedSoFar tells n true old a → waiting_for n a.core.outbox ≡ []
+      → reader.read ≡ a.reader.read → MatchBool closed (Closes a.core.state.moment n (cause_view cause) a.core b) ((b ≡ a.core) × (is_open a.core.state n ≡ false)) → Served tells n old cause (record a { core = b; reader = reader })
+  by_reader cause true reader w for told there done empty same k =
+      let shut : machine.Entry = closing a.core.state.moment n (cause_view cause) in
+      let d : ServedSoFar tells n (is_written cause) old a = subst (λ (v : Bool). ServedSoFar tells n v old a) (sym w) done in
+      then_served tells n old a b reader cause (shut ∷ []) same d
+      k.moves.follows (for a.core.state b.state (shut ∷ []) (closes_after n (cause_view cause) a.core b k)) k.shut
+      (λ _. waits_as_before a.core.state.moment n (cause_view cause) a.core b k ∙ empty)
+      (λ before history given f. told (closed_by old.core.state (d.entries ++ shut ∷ []) n) (closed_at_last a.core.state.moment n (cause_view cause) old.core.state d.entries a.core b d.stands there k))
+  by_reader cause false reader w for told there done empty same k = absurd (false≢true (sym k.1 ∙ there))
 
   -- the writer failed, and the session was closed, if it was still open
-  pub by_writer : (closed : Bool) → ServedSoFar tells n false old from a to → MatchBool closed (Closes a.state.moment n machine.WriteFault a b) ((b ≡ a) × (is_open a.state n ≡ false)) → Served tells n old from WriteFault b to
+  pub by_writer : (closed : Bool) → ServedSoFar tells n false old a → MatchBool closed (Closes a.core.state.moment n machine.WriteFault a.core b) ((b ≡ a.core) × (is_open a.core.state n ≡ false)) → Served tells n old WriteFault (record a { core = b })
   by_writer true done k =
-      let shut : machine.Entry = closing a.state.moment n machine.WriteFault in
-      let there : is_open a.state n ≡ true = close_of_open a.state shut (record { state = b.state; sent = k.moves.sent }) k.moves.stepped n machine.WriteFault refl in
-      then_served tells n old from a b to WriteFault (shut ∷ []) done k.moves.follows (inr (closes_after n machine.WriteFault a b k)) k.shut (λ whole. absurd (false≢true whole))
-      (λ before history given f. inl (closed_at_last a.state.moment n machine.WriteFault old.state done.entries a b done.stands there k))
+      let shut : machine.Entry = closing a.core.state.moment n machine.WriteFault in
+      let there : is_open a.core.state n ≡ true = close_of_open a.core.state shut (record { state = b.state; sent = k.moves.sent }) k.moves.stepped n machine.WriteFault refl in
+      then_served tells n old a b a.reader WriteFault (shut ∷ []) refl done k.moves.follows (inr (closes_after n machine.WriteFault a.core b k)) k.shut (λ whole. absurd (false≢true whole))
+      (λ before history given f. inl (closed_at_last a.core.state.moment n machine.WriteFault old.core.state done.entries a.core b done.stands there k))
   by_writer false done k =
-      let within = closed_within n old.state done.entries a.state done.stands k.1 in
-      subst (λ (v : CoreState K D). Served tells n old from WriteFault v to) (sym k.0)
-      (then_served tells n old from a a to WriteFault [] done (enters_none a) (inl (k.1, refl, refl)) k.1 (λ whole. absurd (false≢true whole))
-      (λ before history given f. told_within n old.state (done.entries ++ []) within.0.last.event within.1))
+      let within = closed_within n old.core.state done.entries a.core.state done.stands k.1 in
+      subst (λ (v : CoreState K D). Served tells n old WriteFault (record a { core = v })) (sym k.0)
+      (then_served tells n old a a.core a.reader WriteFault [] refl done (enters_none a.core) (inl (k.1, refl, refl)) k.1 (λ whole. absurd (false≢true whole))
+      (λ before history given f. told_within n old.core.state (done.entries ++ []) within.0.last.event within.1))
 
   -- the session was closed by what was read of it
-  pub by_stream : (cause : Cause) → (cause ≡ Damaged) ⊎ (cause ≡ Memory) → Finds cause a → is_open a.state n ≡ false → ServedSoFar tells n true old from a to → waiting_for n a.outbox ≡ [] → Served tells n old from cause a to
+  pub by_stream : (cause : Cause) → (cause ≡ Damaged) ⊎ (cause ≡ Memory) → Finds cause a.core → is_open a.core.state n ≡ false → ServedSoFar tells n true old a → waiting_for n a.core.outbox ≡ [] → Served tells n old cause a
   by_stream cause (inl e) finds gone done empty =
-      subst (λ (v : Cause). Served tells n old from v a to) (sym e)
-      (then_served tells n old from a a to Damaged [] done (enters_none a) (gone, refl, refl) gone (λ _. empty) (λ before history given f. found ∙ ap (λ (v : Cause). Some (cause_view v)) e))
+      subst (λ (v : Cause). Served tells n old v a) (sym e)
+      (then_served tells n old a a.core a.reader Damaged [] refl done (enters_none a.core) (gone, refl, refl) gone (λ _. empty) (λ before history given f. found ∙ ap (λ (v : Cause). Some (cause_view v)) e))
     where
-      found : closed_by old.state (done.entries ++ []) n ≡ Some (cause_view cause)
-      found = found_cause n old a cause done.entries done.frames done.extends done.stands gone finds
+      found : closed_by old.core.state (done.entries ++ []) n ≡ Some (cause_view cause)
+      found = found_cause n old.core a.core cause done.entries done.frames done.extends done.stands gone finds
   by_stream cause (inr e) finds gone done empty =
-      subst (λ (v : Cause). Served tells n old from v a to) (sym e)
-      (then_served tells n old from a a to Memory [] done (enters_none a) (gone, refl, refl) gone (λ _. empty) (λ before history given f. found ∙ ap (λ (v : Cause). Some (cause_view v)) e))
+      subst (λ (v : Cause). Served tells n old v a) (sym e)
+      (then_served tells n old a a.core a.reader Memory [] refl done (enters_none a.core) (gone, refl, refl) gone (λ _. empty) (λ before history given f. found ∙ ap (λ (v : Cause). Some (cause_view v)) e))
     where
-      found : closed_by old.state (done.entries ++ []) n ≡ Some (cause_view cause)
-      found = found_cause n old a cause done.entries done.frames done.extends done.stands gone finds
+      found : closed_by old.core.state (done.entries ++ []) n ≡ Some (cause_view cause)
+      found = found_cause n old.core a.core cause done.entries done.frames done.extends done.stands gone finds

@@ -1,5 +1,5 @@
 -- What a session begins with.
-use Rattle.std.proofs.Common.{◌≡◌, ℕ, ◌≤◌, [], ◌∷◌, length, true, false, refl, sym, ◌∙◌, max, append-nil}
+use Rattle.std.proofs.Common.{◌≡◌, ℕ, ◌≤◌, [], ◌∷◌, length, true, false, refl, sym, ◌∙◌, append-nil}
 use Rattle.std.proofs.Math.Nat.{zero-max}
 use Rattle.std.proofs.lemmas.List.Elements.{All-nil}
 use Rattle.std.proofs.lemmas.Bool.{eq-eqb}
@@ -19,7 +19,7 @@ use Rattle.ov_history.specs.declared.event.Stepped.TheVariants as answer
 use Rattle.ov_core.specs.Following.{CoreState}
 use Rattle.ov_core.specs.Stepping.{IsEntered}
 use Rattle.ov_streams.specs.Feeding.{IsFed}
-use Rattle.ov_serve.specs.Serving.{IoState, Piece, most_piece_bytes}
+use Rattle.ov_serve.specs.Serving.{ServerState, Piece, most_piece_bytes}
 use Rattle.ov_serve.specs.Progress.{ServedAndFed}
 use Rattle.ov_serve.proofs.Closings.{stands_open}
 use Rattle.ov_serve.proofs.Goings.{goes_by_entries}
@@ -38,31 +38,31 @@ fed_nothing cutter stands = record {
 }
 
 -- a session that was opened
-pub serving_opened : {K D C : Type 0} (draws : D → Uuid → D → Type 0) (tells : C → ℕ → C → Type 0) (session : Session) (old new : CoreState K D) (from : IoState C) (cutter : CutterState) → StandsFor [] [] cutter
-    → IsEntered draws old.state.moment machine.Open old (answer.Opened session) new → ServedAndFed tells session.serial old from new from cutter
-serving_opened {K} {D} {C} draws tells session old new from cutter stands entered =
+pub serving_opened : {K D C : Type 0} (draws : D → Uuid → D → Type 0) (tells : C → ℕ → C → Type 0) (session : Session) (old : ServerState K D C) (new : CoreState K D) (cutter : CutterState) → StandsFor [] [] cutter
+    → IsEntered draws old.core.state.moment machine.Open old.core (answer.Opened session) new → ServedAndFed tells session.serial old (record old { core = new }) cutter
+serving_opened draws tells session old new cutter stands entered =
     let t : machine.Stepped = record { state = new.state; sent = entered.moves.sent } in
-    let enters : streams.IsEntryAt 0 old.state machine.Open entered.entry t = record { event = entered.tells.0; moment = entered.moment ∙ sym (zero-max old.state.moment); step = entered.moves.stepped } in
-    let expands : Expands 0 old.state no_streams Opens (entered.entry ∷ []) new.state no_streams = (entered.entry, t, refl, enters, refl, refl) in
-    let turn = turn_open session.serial old.state entered.entry t entered.moves.stepped entered.tells.0 in
-    let there : is_open new.state session.serial ≡ true = turn.open_is ∙ rw (eq-eqb old.state.next session.serial (sym entered.tells.1)) (or_truth (is_open old.state session.serial)) in
+    let enters : streams.IsEntryAt 0 old.core.state machine.Open entered.entry t = record { event = entered.tells.0; moment = entered.moment ∙ sym (zero-max old.core.state.moment); step = entered.moves.stepped } in
+    let expands : Expands 0 old.core.state no_streams Opens (entered.entry ∷ []) new.state no_streams = (entered.entry, t, refl, enters, refl, refl) in
+    let turn = turn_open session.serial old.core.state entered.entry t entered.moves.stepped entered.tells.0 in
+    let there : is_open new.state session.serial ≡ true = turn.open_is ∙ rw (eq-eqb old.core.state.next session.serial (sym entered.tells.1)) (or_truth (is_open old.core.state session.serial)) in
     record {
       done = record {
         entries = entered.entry ∷ [];
         frames = [];
         pieces = [];
         streams = no_streams;
-        extends = goes_by_entries session.serial old new (entered.entry ∷ []) entered.moves.follows;
-        read = sym (append-nil from.read);
-        written = sym (append-nil from.written);
-        expands = one_event 0 old.state no_streams Opens (entered.entry ∷ []) new.state no_streams expands;
+        extends = goes_by_entries session.serial old.core new (entered.entry ∷ []) entered.moves.follows;
+        read = sym (append-nil old.reader.read);
+        written = sym (append-nil old.writer.written);
+        expands = one_event 0 old.core.state no_streams Opens (entered.entry ∷ []) new.state no_streams expands;
         stream = refl;
         ticks = (λ is. let no : machine.Open ≡ machine.Tick = sym entered.tells.0 ∙ is in cc, λ u stepped. tt);
         sizes = All-nil (λ (p : Piece). length p.bytes ≤ most_piece_bytes);
         moments = refl;
         serial = entered.tells.1;
-        stands = stands_open session.serial old.state (entered.entry ∷ []) new.state (leads_more old.state [] old.state entered.entry t (leads_none old.state) entered.moves.stepped) there
-            (closed_by_more old.state [] old.state entered.entry t session.serial (leads_none old.state) entered.moves.stepped ∙ turn.cause_is);
+        stands = stands_open session.serial old.core.state (entered.entry ∷ []) new.state (leads_more old.core.state [] old.core.state entered.entry t (leads_none old.core.state) entered.moves.stepped) there
+            (closed_by_more old.core.state [] old.core.state entered.entry t session.serial (leads_none old.core.state) entered.moves.stepped ∙ turn.cause_is);
       };
       fed = λ _. fed_nothing cutter stands;
     }

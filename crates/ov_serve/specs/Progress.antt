@@ -10,9 +10,9 @@ use Rattle.ov_outbox.specs.Frames.{waiting_for}
 use Rattle.ov_core.specs.Following.{CoreState}
 use Rattle.ov_core.specs.Passing.{is_due}
 use Rattle.ov_streams.specs.Entering.{ExtendsByStep}
-use Rattle.ov_streams.specs.Feeding.{IsFed, EntersPiece}
+use Rattle.ov_streams.specs.Feeding.{IsFed, FedPiece, EntersPiece}
 use Rattle.ov_ends.specs.Writing.{WritesOf}
-use Rattle.ov_serve.specs.Serving.{IoState, ExtendsHanding, Pieces, ArePieces, bytes_of, events_of, TellsMoments, PassesWhereDue}
+use Rattle.ov_serve.specs.Serving.{ServerState, ExtendsHanding, Pieces, ArePieces, bytes_of, events_of, TellsMoments, PassesWhereDue}
 
 -- ---- what is written
 
@@ -59,39 +59,48 @@ abbrev pub PassesIf : {K D : Type 0} → Bool → ℕ → CoreState K D → Core
 PassesIf true at old new = PassesDue at old new
 PassesIf false at old new = new ≡ old
 
--- A piece of the session's stream was entered at the moment that the clock reported. Then time passed to it, if the session
+-- a core with its clock
+pub record TimedCore (K D C : Type 0) : Type 0 where
+  pub core : CoreState K D
+  pub clock : C
+
+-- these
+abbrev pub timed_core : {K D C : Type 0} → CoreState K D → C → TimedCore K D C
+timed_core core clock = record { core = core; clock = clock }
+
+-- A piece of a session's stream was entered at the moment that the clock reported. Then time passed to it, if the session
 -- is still open and a transaction is due; unless that was refused, and then not all was done.
-pub record ServesPiece {K D C : Type 0} (tells : C → ℕ → C → Type 0) (n : ℕ) (stream piece : List ℕ) (old : CoreState K D) (clock : C) (is_all : Bool) (new : CoreState K D) (clock' : C) (cutter : CutterState) : Type 0 where
+pub record ServesPiece {K D C : Type 0} (tells : C → ℕ → C → Type 0) (piece : FedPiece) (old : TimedCore K D C) (is_all : Bool) (new : TimedCore K D C) (cutter : CutterState) : Type 0 where
   pub at : ℕ
-  pub told : tells clock at clock'
+  pub told : tells old.clock at new.clock
   pub mid : CoreState K D
-  pub enters : EntersPiece at n stream piece old mid cutter
+  pub enters : EntersPiece at piece old.core mid cutter
   pub ticks : Bool
-  pub passes : PassesIf ticks at mid new
-  pub still : ticks ≡ true → is_open mid.state n ≡ true
-  pub given : is_all ≡ true → is_open mid.state n ≡ true → ticks ≡ is_due at mid.state
+  pub passes : PassesIf ticks at mid new.core
+  pub still : ticks ≡ true → is_open mid.state piece.session ≡ true
+  pub given : is_all ≡ true → is_open mid.state piece.session ≡ true → ticks ≡ is_due at mid.state
 
 -- ---- a session
 
 -- What was done since the core was `old`: the session was opened, these pieces of it were read and entered, and all of these
 -- frames were written, or a beginning of them.
-pub record ServedSoFar {K D C : Type 0} (tells : C → ℕ → C → Type 0) (n : ℕ) (is_whole : Bool) (old : CoreState K D) (from : IoState C) (new : CoreState K D) (to : IoState C) : Type 0 where
+pub record ServedSoFar {K D C : Type 0} (tells : C → ℕ → C → Type 0) (n : ℕ) (is_whole : Bool) (old new : ServerState K D C) : Type 0 where
   pub entries : List machine.Entry
   pub frames : List (List ℕ)
   pub pieces : Pieces
   pub streams : Streams
-  pub extends : ExtendsHanding n old entries frames new
-  pub read : to.read ≡ from.read ++ bytes_of pieces
-  pub written : WritesOf is_whole (joined frames) from.written to.written
-  pub expands : ExpandsTimed old.state no_streams (events_of n pieces) entries new.state streams
+  pub extends : ExtendsHanding n old.core entries frames new.core
+  pub read : new.reader.read ≡ old.reader.read ++ bytes_of pieces
+  pub written : WritesOf is_whole (joined frames) old.writer.written new.writer.written
+  pub expands : ExpandsTimed old.core.state no_streams (events_of n pieces) entries new.core.state streams
   pub stream : streams n ≡ bytes_of pieces
-  pub ticks : PassesWhereDue old.state entries
+  pub ticks : PassesWhereDue old.core.state entries
   pub sizes : ArePieces pieces
-  pub moments : TellsMoments tells from.clock pieces to.clock
-  pub serial : n ≡ old.state.next
-  pub stands : StandsAfter n old.state entries new.state
+  pub moments : TellsMoments tells old.clock pieces new.clock
+  pub serial : n ≡ old.core.state.next
+  pub stands : StandsAfter n old.core.state entries new.core.state
 
 -- the same; the cutter was given what was read, while the session is open
-pub record ServedAndFed {K D C : Type 0} (tells : C → ℕ → C → Type 0) (n : ℕ) (old : CoreState K D) (from : IoState C) (new : CoreState K D) (to : IoState C) (cutter : CutterState) : Type 0 where
-  pub done : ServedSoFar tells n true old from new to
-  pub fed : is_open new.state n ≡ true → IsFed (bytes_of done.pieces) cutter
+pub record ServedAndFed {K D C : Type 0} (tells : C → ℕ → C → Type 0) (n : ℕ) (old new : ServerState K D C) (cutter : CutterState) : Type 0 where
+  pub done : ServedSoFar tells n true old new
+  pub fed : is_open new.core.state n ≡ true → IsFed (bytes_of done.pieces) cutter

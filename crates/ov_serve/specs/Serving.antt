@@ -1,5 +1,6 @@
--- What serving a session makes of a core and of what stands around it.
-use Rattle.std.specs.Prelude.{◌≡◌, ◌⊎◌, ◌≤◌, ℕ, nat_le, List, [], ◌∷◌, ◌++◌, length, Bool, true, false, if◌then◌else◌, Option, Some, None}
+-- What serving a session makes of a core, and of the reader, the writer and the clock around it.
+use Rattle.std.specs.Prelude.{◌≡◌, ◌⊎◌, ◌≤◌, ℕ, List, [], ◌∷◌, ◌++◌, length, Bool, true, false, if◌then◌else◌, Option, Some}
+use Rattle.std.specs.Io.KnownBytes.{IsAtEnd}
 use Rattle.std.specs.List.{All, flat_map}
 use Rattle.ov_specs.specs.machine.Machine as machine
 use Rattle.ov_specs.specs.machine.Machine.{State, is_open, opening, due}
@@ -14,18 +15,22 @@ use Rattle.ov_outbox.specs.Frames.{waiting_for}
 use Rattle.ov_core.specs.Following.{CoreState, Follows, CountsWork, and_all_handed}
 use Rattle.ov_core.specs.Passing.{is_due}
 use Rattle.ov_history.specs.History.{KeepsNewest}
-use Rattle.ov_ends.specs.Ends.{one_more}
+use Rattle.ov_ends.specs.declared.ends.Source as source
+use Rattle.ov_ends.specs.declared.ends.Sink as sink
+use Rattle.ov_ends.specs.Ends.{one_more, KeepsInput, GivesWritten}
+use Rattle.ov_ends.specs.States.{SourceState, source_of, SinkState, sink_of}
 use Rattle.ov_ends.specs.Writing.{WritesOf}
 
--- what stands around a core: the bytes that were read and written so far, and the clock
-pub record IoState (C : Type 0) : Type 0 where
-  pub read : List ℕ
-  pub written : List ℕ
+-- a core that is served, with the reader, the writer and the clock around it
+pub record ServerState (K D C : Type 0) : Type 0 where
+  pub core : CoreState K D
+  pub reader : SourceState
+  pub writer : SinkState
   pub clock : C
 
--- these bytes and this clock
-abbrev pub io_state : {C : Type 0} → List ℕ → List ℕ → C → IoState C
-io_state read written clock = record { read = read; written = written; clock = clock }
+-- a core with a source, a sink and a clock
+abbrev pub server_of : {K D S W C : Type 0} → source.Ghosts S → sink.Ghosts W → CoreState K D → S → W → C → ServerState K D C
+server_of source sink core reader writer clock = record { core = core; reader = source_of source reader; writer = sink_of sink writer; clock = clock }
 
 -- ---- frames handed out
 
@@ -124,42 +129,42 @@ is_written Damaged = true
 is_written Overrun = true
 is_written Memory = true
 
--- What a history from an opening says of a session at its end, by the bytes written before it and after it: all that the
+-- What a history from a state on says of a session at its end, by the bytes written before it and after it: all that the
 -- history sends the session was written, or a beginning of that if a write failed; and the history closes the session for
 -- the cause that is reported.
-pub record EndsAs (n : ℕ) (cause : Cause) (schema : Schema) (database : Database) (history : List machine.Entry) (said said' : List ℕ) : Type 0 where
+pub record EndsAs (before : State) (history : List machine.Entry) (n : ℕ) (cause : Cause) (said said' : List ℕ) : Type 0 where
   pub reached : machine.Stepped
-  pub legal : run (opening schema database) history ≡ Some reached
+  pub legal : run before history ≡ Some reached
   pub written : WritesOf (is_written cause) (out n reached.sent) said said'
-  pub told : IsCauseIn cause (closed_by (opening schema database) history n)
+  pub told : IsCauseIn cause (closed_by before history n)
 
 -- What was done from the opening of the session to its closing. Time passes only if a waiting transaction is due.
-pub record Served {K D C : Type 0} (tells : C → ℕ → C → Type 0) (n : ℕ) (old : CoreState K D) (from : IoState C) (cause : Cause) (new : CoreState K D) (to : IoState C) : Type 0 where
+pub record Served {K D C : Type 0} (tells : C → ℕ → C → Type 0) (n : ℕ) (old : ServerState K D C) (cause : Cause) (new : ServerState K D C) : Type 0 where
   -- what the core entered, what it handed out, and what was read
   pub entries : List machine.Entry
   pub frames : List (List ℕ)
   pub pieces : Pieces
-  pub extends : ExtendsHanding n old entries frames new
-  pub read : to.read ≡ from.read ++ bytes_of pieces
+  pub extends : ExtendsHanding n old.core entries frames new.core
+  pub read : new.reader.read ≡ old.reader.read ++ bytes_of pieces
   pub sizes : ArePieces pieces
-  pub moments : TellsMoments tells from.clock pieces to.clock
+  pub moments : TellsMoments tells old.clock pieces new.clock
   -- the entries are those of the stream events, and then perhaps a closing
   pub front : List machine.Entry
   pub last : List machine.Entry
   pub mid : State
   pub streams : Streams
   pub parts : entries ≡ front ++ last
-  pub expands : ExpandsTimed old.state no_streams (events_of n pieces) front mid streams
+  pub expands : ExpandsTimed old.core.state no_streams (events_of n pieces) front mid streams
   pub stream : streams n ≡ bytes_of pieces
-  pub ticks : PassesWhereDue old.state front
-  pub closes : ClosesFor n cause mid last new.state
-  pub shut : is_open new.state n ≡ false
+  pub ticks : PassesWhereDue old.core.state front
+  pub closes : ClosesFor n cause mid last new.core.state
+  pub shut : is_open new.core.state n ≡ false
   -- the frames were written, and none is left waiting; or a beginning of them if a write failed
-  pub written : WritesOf (is_written cause) (joined frames) from.written to.written
-  pub none_left : is_written cause ≡ true → waiting_for n new.outbox ≡ []
+  pub written : WritesOf (is_written cause) (joined frames) old.writer.written new.writer.written
+  pub none_left : is_written cause ≡ true → waiting_for n new.core.outbox ≡ []
   -- whatever history the core has followed from its opening, this is what it says of the session with the entries appended
-  pub ends : (schema : Schema) (database : Database) (history : List machine.Entry) (given : ℕ → List (List ℕ)) → Follows (opening schema database) history given old
-      → EndsAs n cause schema database (history ++ entries) from.written to.written
+  pub ends : (schema : Schema) (database : Database) (history : List machine.Entry) (given : ℕ → List (List ℕ)) → Follows (opening schema database) history given old.core
+      → EndsAs (opening schema database) (history ++ entries) n cause old.writer.written new.writer.written
 
 -- What the ends say of a cause: the input ended only if the reader met its end, and a failure is counted if one is reported
 -- and never otherwise.
@@ -170,3 +175,13 @@ CauseMatchesCounts WriteFault at_end reads reads' writes writes' = (reads' ≡ r
 CauseMatchesCounts Damaged at_end reads reads' writes writes' = (reads' ≡ reads) × (writes' ≡ writes)
 CauseMatchesCounts Memory at_end reads reads' writes writes' = (reads' ≡ reads) × (writes' ≡ writes)
 CauseMatchesCounts Overrun at_end reads reads' writes writes' = ⊥
+
+-- The next session of the core was served to its closing, for this cause. If no write failed, what was written is flushed. What
+-- was read is of what the reader had, all of it if its end is reported, and what was written is what the writer was given.
+pub record ServesSession {K D C : Type 0} (tells : C → ℕ → C → Type 0) (old : ServerState K D C) (cause : Cause) (new : ServerState K D C) : Type 0 where
+  pub served : Served tells old.core.state.next old cause new
+  pub flushed : is_written cause ≡ true → new.writer.is_flushed ≡ true
+  pub counts : CauseMatchesCounts cause new.reader.at_end old.reader.faults new.reader.faults old.writer.faults new.writer.faults
+  pub input : KeepsInput old.reader.read old.reader.remaining new.reader.read new.reader.remaining
+  pub all : cause ≡ InputEnded → IsAtEnd new.reader.remaining
+  pub given : GivesWritten old.writer.written old.writer.contents new.writer.written new.writer.contents

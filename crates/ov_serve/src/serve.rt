@@ -3,13 +3,14 @@ ghost use Rattle.std.specs.Prelude.{is_ok, IfOk, IfErr};
 ghost use Rattle.std.specs.Io.KnownBytes.{IsAtEnd};
 ghost use Rattle.ov_specs.specs.machine.Machine.{is_open, Entry as SpecEntry, Open as SpecOpen};
 ghost use Rattle.ov_history.specs.Entries.{cause_view, event_view, entry_view};
+ghost use Rattle.ov_history.specs.declared.event.Stepped.TheVariants.{Opened};
 ghost use Rattle.ov_core.specs.Following.{CoreState};
-ghost use Rattle.ov_core.specs.Stepping.{RefusesStep};
-ghost use Rattle.ov_streams.specs.Feeding.{IsFed};
+ghost use Rattle.ov_core.specs.Stepping.{IsEntered, RefusesStep};
+ghost use Rattle.ov_streams.specs.Feeding.{IsFed, fed_piece};
 ghost use Rattle.ov_ends.specs.Ends.{KeepsInput, GivesWritten};
-ghost use Rattle.ov_serve.specs.Serving.{IoState, io_state, Served, is_written, CauseMatchesCounts};
-ghost use Rattle.ov_serve.specs.Serving.{most_piece_bytes};
-ghost use Rattle.ov_serve.specs.Progress.{stream_cause, ServedAndFed, ServesPiece};
+ghost use Rattle.ov_serve.specs.Serving.{ServesSession, Served, server_of, is_written};
+ghost use Rattle.ov_serve.specs.Serving.{CauseMatchesCounts, most_piece_bytes};
+ghost use Rattle.ov_serve.specs.Progress.{stream_cause, ServesPiece, timed_core};
 
 use crate::send::write_waiting;
 use ov_core::{Cause, Core, Entry, Event, Session, StepFault};
@@ -42,25 +43,9 @@ pub fn serve_one<R: Wait, K: Keeper + Drop, D: Draws + Drop, S: Source, W: Sink,
     clock: &mut C,
 ) -> Result<Cause, StepFault>
     ensures served { IfOk result
-        (λ cause. Served C.tells core.old.state.next core.old
-        (io_state (S.bytes_read reader.old) (W.bytes_written writer.old) clock.old)
-        cause core.new
-        (io_state (S.bytes_read reader.new) (W.bytes_written writer.new) clock.new)) }
-    ensures flushed { IfOk result (λ cause. is_written cause ≡ true
-        → W.is_flushed writer.new ≡ true) }
-    ensures ends { IfOk result
-        (λ cause. CauseMatchesCounts cause (S.at_end reader.new) (S.faults reader.old)
-        (S.faults reader.new) (W.faults writer.old) (W.faults writer.new)) }
-    // What was read is of what the reader had, all of it if its end is reported, and what was written is what the writer was
-    // given.
-    ensures input { IfOk result
-        (λ cause. KeepsInput (S.bytes_read reader.old) (S.remaining reader.old)
-        (S.bytes_read reader.new) (S.remaining reader.new)) }
-    ensures all { IfOk result (λ cause. cause ≡ Cause.InputEnded
-        → IsAtEnd (S.remaining reader.new)) }
-    ensures given { IfOk result
-        (λ cause. GivesWritten (W.bytes_written writer.old) (W.contents writer.old)
-        (W.bytes_written writer.new) (W.contents writer.new)) }
+        (λ cause. ServesSession C.tells
+        (server_of S.Source W.Sink core.old reader.old writer.old clock.old) cause
+        (server_of S.Source W.Sink core.new reader.new writer.new clock.new)) }
     ensures refused { IfErr result (λ fault. (core.new ≡ core.old)
         × RefusesStep SpecOpen core.old.state fault) }
     ensures untouched { IfErr result (λ fault. (reader.new ≡ reader.old) × (writer.new ≡ writer.old)
@@ -68,26 +53,24 @@ pub fn serve_one<R: Wait, K: Keeper + Drop, D: Draws + Drop, S: Source, W: Sink,
     ensures honest { K.is_honest core.new.keeper → K.is_honest core.old.keeper }
 {
     let session = core.open_session()?;
-    let mut cutter = Cutter::new(alloc);
-    Ok(serve_session(rt, core, alloc, session, &mut cutter, reader, writer, clock))
+    Ok(serve_session(rt, core, alloc, session, reader, writer, clock))
 }
 
-/// Serves a session that was opened, until it is closed.
+/// Serves the session that was just opened, until it is closed.
 fn serve_session<R: Wait, K: Keeper + Drop, D: Draws + Drop, S: Source, W: Sink, C: Clock>(
     rt: &R,
     core: &mut Core<K, D>,
     alloc: Global,
     session: Session,
-    cutter: &mut Cutter,
     reader: &mut S,
     writer: &mut W,
     clock: &mut C,
 ) -> Cause
-    ensures served { (first : CoreState K D) (from : IoState C)
-        → ServedAndFed C.tells session.serial first from core.old
-        (io_state (S.bytes_read reader.old) (W.bytes_written writer.old) clock.old) cutter.old
-        → Served C.tells session.serial first from result core.new
-        (io_state (S.bytes_read reader.new) (W.bytes_written writer.new) clock.new) }
+    ensures served { (first : CoreState K D)
+        → IsEntered D.draws first.state.moment SpecOpen first (Opened session) core.old
+        → Served C.tells session.serial
+        (server_of S.Source W.Sink first reader.old writer.old clock.old) result
+        (server_of S.Source W.Sink core.new reader.new writer.new clock.new) }
     ensures flushed { is_written result ≡ true → W.is_flushed writer.new ≡ true }
     ensures ends { CauseMatchesCounts result (S.at_end reader.new) (S.faults reader.old)
         (S.faults reader.new) (W.faults writer.old) (W.faults writer.new) }
@@ -98,6 +81,7 @@ fn serve_session<R: Wait, K: Keeper + Drop, D: Draws + Drop, S: Source, W: Sink,
         (W.bytes_written writer.new) (W.contents writer.new) }
     ensures honest { K.is_honest core.new.keeper → K.is_honest core.old.keeper }
 {
+    let mut cutter = Cutter::new(alloc);
     let mut piece = [0u8; PIECE_BYTES];
     for _ in rt.forever() {
         if !write_waiting(core, session, writer) {
@@ -113,7 +97,7 @@ fn serve_session<R: Wait, K: Keeper + Drop, D: Draws + Drop, S: Source, W: Sink,
                 return Cause::InputEnded;
             }
             Some(n) => {
-                let _ = serve_piece(core, alloc, session, cutter, clock, &piece[..n]);
+                let _ = serve_piece(core, alloc, session, &mut cutter, clock, &piece[..n]);
             }
             None => {
                 let _ = core.close(session, Cause::ReadFault);
@@ -139,8 +123,9 @@ fn serve_piece<K: Keeper + Drop, D: Draws + Drop, C: Clock>(
     requires short { length piece.now ≤ most_piece_bytes }
     ensures short { length piece.now ≤ most_piece_bytes }
     ensures entered { (stream : List ℕ) → IsFed stream cutter.old
-        → ServesPiece C.tells session.serial stream piece.now core.old clock.old (is_ok result)
-        core.new clock.new cutter.new }
+        → ServesPiece C.tells (fed_piece session.serial stream piece.now)
+        (timed_core core.old clock.old) (is_ok result) (timed_core core.new clock.new)
+        cutter.new }
     ensures honest { K.is_honest core.new.keeper → K.is_honest core.old.keeper }
 {
     let at = clock.now();

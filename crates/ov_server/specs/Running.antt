@@ -4,8 +4,6 @@ use Rattle.serde_json.specs.Written.{compact_text}
 use Rattle.sqlite_disk.specs.declared.Disk as disk
 use Rattle.sqlite_store.specs.declared.store.FileStore.{FileStore}
 use Rattle.sqlite_wal.specs.Recovery.{Image}
-use Rattle.ov_specs.specs.values.Uuid.{Uuid}
-use Rattle.ov_keeper.specs.declared.keeper.Keeper.{Ghosts}
 use Rattle.ov_store.specs.StoreState.{StoreState}
 use Rattle.ov_words.specs.declared.settings.Settings.{Settings}
 use Rattle.ov_words.specs.Words.{settings_of}
@@ -16,6 +14,7 @@ use Rattle.ov_listen.specs.declared.database.Service.{Service}
 use Rattle.ov_listen.specs.declared.database.DatabaseEnded.{DatabaseEnded}
 use Rattle.ov_listen.specs.Databases.{EndsMemory, IsInFile, IsInMemory, MemoryState}
 use Rattle.ov_listen.specs.Files.{EndsFile}
+use Rattle.ov_listen.specs.Environment.{Environment}
 use Rattle.ov_server.specs.Schemas.{IsBuiltIn}
 
 -- where sessions are served: at the address, if one is named
@@ -29,12 +28,18 @@ pub record IsAsked {D : Type 0} (file : Option (List ℕ)) (at : Place) (service
   pub text : service.text ≡ compact_text service.schema.tree
   pub place : service.place ≡ at
 
+-- what the program is started with: its arguments, what the database's file and its log hold, and its pipes
+pub record Invocation (C : Type 0) : Type 0 where
+  pub words : List (List ℕ)
+  pub image : Image
+  pub pipes : PipesState C
+
 -- The arguments give settings, and what they ask for was served: a database in memory if no file is named, and otherwise the
 -- one in the file.
-pub record RunsDatabase {A D C : Type 0} {g : disk.Ghosts A} (memory : Ghosts MemoryState) (file : Ghosts (StoreState (FileStore A g))) (drawing : D → Uuid → D → Type 0) (tells : C → ℕ → C → Type 0) (image : Image) (words : List (List ℕ)) (from : PipesState C) (ended : DatabaseEnded D) (to : PipesState C) : Type 0 where
+pub record RunsDatabase {A D C : Type 0} {g : disk.Ghosts A} (memory : Environment MemoryState D C) (files : Environment (StoreState (FileStore A g)) D C) (start : Invocation C) (ended : DatabaseEnded D) (to : PipesState C) : Type 0 where
   pub settings : Settings
-  pub given : settings_of words ≡ Some settings
+  pub given : settings_of start.words ≡ Some settings
   pub service : Service D
   pub asked : IsAsked settings.schema (place_of settings.listen settings.sessions) service
-  pub ends : MatchOption settings.db (IsInMemory ended (λ e. EndsMemory memory drawing tells service from e to))
-      (λ _. IsInFile ended (λ e. EndsFile file drawing tells image service from e to))
+  pub ends : MatchOption settings.db (IsInMemory ended (λ e. EndsMemory memory service start.pipes e to))
+      (λ _. IsInFile ended (λ e. EndsFile files start.image service start.pipes e to))

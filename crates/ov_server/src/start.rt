@@ -4,6 +4,7 @@ ghost use Rattle.std.specs.Prelude.{◌≡◌, ◌≢◌, ◌⊎◌, Err, IfOk, 
 ghost use Rattle.sqlite_wal.specs.Files.{image_at};
 ghost use Rattle.ov_words.specs.Words.{settings_of};
 ghost use Rattle.ov_pipes.specs.Pipes.{state_of};
+ghost use Rattle.ov_listen.specs.Environment.{environment_of};
 ghost use Rattle.ov_server.specs.Running.{IsAsked, RunsDatabase, place_of};
 ghost use Rattle.ov_server.specs.Schemas.{IsBuiltIn};
 
@@ -131,8 +132,15 @@ where
     W: Sink,
     C: Clock,
     ensures served { IfOk result
-        (λ ended. RunsDatabase ⟦<VolatileKeeper as Keeper>⟧ ⟦<Store<FileStore<FileFrom<T>>> as Keeper>⟧ ⟦<RandomDraws<StdRng> as Draws>⟧.draws C.tells
-        (image_at T.Start) (map A.text words.now) (state_of S.Source W.Sink pipes.old) ended
+        (λ ended. RunsDatabase
+        (environment_of ⟦<VolatileKeeper as Keeper>⟧ ⟦<RandomDraws<StdRng> as Draws>⟧.draws C.tells)
+        (environment_of ⟦<Store<FileStore<FileFrom<T>>> as Keeper>⟧
+        ⟦<RandomDraws<StdRng> as Draws>⟧.draws C.tells)
+        (record {
+          words = map A.text words.now;
+          image = image_at T.Start;
+          pipes = state_of S.Source W.Sink pipes.old;
+        }) ended
         (state_of S.Source W.Sink pipes.new)) }
     ensures untouched { OnErr result (pipes.new ≡ pipes.old) }
     ensures kinds { IfErr result (λ ending. (ending ≢ Ending.InputEnded)

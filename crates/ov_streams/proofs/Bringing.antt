@@ -14,7 +14,7 @@ use Rattle.ov_cut.specs.declared.fault.CutFault.{CutFault}
 use Rattle.ov_cut.specs.declared.fault.CutFault.TheVariants as fault
 use Rattle.ov_cut.specs.CutterState.{CutterState, StandsFor, IsBeginning, fault_of_damage}
 use Rattle.ov_core.specs.Following.{CoreState, Extends}
-use Rattle.ov_streams.specs.Feeding.{IsFed, EntersPiece}
+use Rattle.ov_streams.specs.Feeding.{IsFed, EntersPiece, fed_piece}
 use Rattle.ov_streams.specs.Entering.{EntersTexts, ClosesByEntry, cause_of_fault}
 use Rattle.ov_streams.proofs.Entering.{FeedsAsked, by_memory, enters_more}
 
@@ -84,7 +84,7 @@ module _ {K D : Type 0} (at n : ℕ) (stream piece : List ℕ) (texts : List (Li
 
   brings : (others : List (List ℕ)) (e : Bool) → asked (stream ++ piece) ≡ with_all (asked stream).messages (asked_of (texts ++ others) e)
       → (entries : List Entry) (new : CoreState K D) → Extends old entries new → FeedsAsked at old.state n (asked_of (texts ++ others) e) entries new.state
-      → (is_open new.state n ≡ true → IsFed (stream ++ piece) after) → EntersPiece at n stream piece old new after
+      → (is_open new.state n ≡ true → IsFed (stream ++ piece) after) → EntersPiece at (fed_piece n stream piece) old new after
   brings others e is entries new enters feeds on = record {
     messages = (asked_of (texts ++ others) e).messages;
     more = ap (λ (a : Asked). a.messages) is;
@@ -95,13 +95,13 @@ module _ {K D : Type 0} (at n : ℕ) (stream piece : List ℕ) (texts : List (Li
   }
 
   -- a text closed the session
-  pub at_text : (others : List (List ℕ)) → (f.given ++ texts) ++ others ≡ (cut (stream ++ piece)).messages → is_open mid.state n ≡ false → EntersPiece at n stream piece old mid after
+  pub at_text : (others : List (List ℕ)) → (f.given ++ texts) ++ others ≡ (cut (stream ++ piece)).messages → is_open mid.state n ≡ false → EntersPiece at (fed_piece n stream piece) old mid after
   at_text others p away =
       let e : Bool = is_some (cut (stream ++ piece)).damage in
       brings others e (split others e p refl) all.entries mid all.enters (all.ends away others e) (λ there. absurd (false≢true (sym away ∙ there)))
 
   -- an allocation for more texts failed
-  pub at_memory : (others : List (List ℕ)) → (f.given ++ texts) ++ others ≡ (cut (stream ++ piece)).messages → is_open mid.state n ≡ true → (new : CoreState K D) → ClosesByEntry at n machine.Memory mid new → EntersPiece at n stream piece old new after
+  pub at_memory : (others : List (List ℕ)) → (f.given ++ texts) ++ others ≡ (cut (stream ++ piece)).messages → is_open mid.state n ≡ true → (new : CoreState K D) → ClosesByEntry at n machine.Memory mid new → EntersPiece at (fed_piece n stream piece) old new after
   at_memory others p there new s =
       let e : Bool = is_some (cut (stream ++ piece)).damage in
       let x : Asked = asked_of others e in
@@ -114,7 +114,7 @@ module _ {K D : Type 0} (at n : ℕ) (stream piece : List ℕ) (texts : List (Li
     whole = append-nil (f.given ++ texts) ∙ sym now.messages
 
     -- damage is new
-    pub at_damage : (why : CutFault) → after.fault ≡ Some why → (new : CoreState K D) → ClosesByEntry at n machine.Damaged mid new → EntersPiece at n stream piece old new after
+    pub at_damage : (why : CutFault) → after.fault ≡ Some why → (new : CoreState K D) → ClosesByEntry at n machine.Damaged mid new → EntersPiece at (fed_piece n stream piece) old new after
     at_damage why is new s =
         let last = subst (λ (v : State). FeedsAsked at mid.state n (asked_of [] true) (s.entry ∷ []) v) s.adds.state (s.step, inr (refl, s.is), refl) in
         brings [] true (split [] true whole (told_some (cut (stream ++ piece)).damage after.fault why now.fault is)) (all.entries ++ s.entry ∷ []) new
@@ -122,7 +122,7 @@ module _ {K D : Type 0} (at n : ℕ) (stream piece : List ℕ) (texts : List (Li
         (λ open'. absurd (false≢true (sym (ap (λ (v : State). is_open v n) (sym s.adds.state) ∙ s.shut) ∙ open')))
 
     -- the piece ends no stream
-    pub at_end : after.fault ≡ None → EntersPiece at n stream piece old mid after
+    pub at_end : after.fault ≡ None → EntersPiece at (fed_piece n stream piece) old mid after
     at_end is =
         let split' = split [] false whole (told_none (cut (stream ++ piece)).damage after.fault now.fault is) in
         let feeds = all.goes_on there [] false [] mid.state refl in
@@ -136,7 +136,7 @@ module _ {K D : Type 0} (at n : ℕ) (stream piece : List ℕ) (texts : List (Li
 -- the cutter reported a fault
 pub at_fault : {K D : Type 0} (at n : ℕ) (stream piece : List ℕ) (texts : List (List ℕ)) (old mid : CoreState K D) (before after : CutterState) (f : IsFed stream before) (all : EntersTexts at n texts old mid)
     (fault_of_damage : Option CutFault) (why : CutFault) → fault_of_damage ≡ Some why → fault_of_damage ≡ after.fault → (fault_of_damage ≢ Some fault.Memory → StandsFor (stream ++ piece) (f.given ++ texts) after) → IsBeginning (f.given ++ texts) (cut (stream ++ piece)).messages
-    → is_open mid.state n ≡ true → (new : CoreState K D) → ClosesByEntry at n (cause_of_fault why) mid new → EntersPiece at n stream piece old new after
+    → is_open mid.state n ≡ true → (new : CoreState K D) → ClosesByEntry at n (cause_of_fault why) mid new → EntersPiece at (fed_piece n stream piece) old new after
 at_fault at n stream piece texts old mid before after f all fault_of_damage (fault.Damaged x) is same stands begins there new s =
     at_damage at n stream piece texts old mid before after f all (stands (λ h. let g : Some (fault.Damaged x) ≡ Some fault.Memory = sym is ∙ h in cc)) there (fault.Damaged x) (sym same ∙ is) new s
 at_fault at n stream piece texts old mid before after f all fault_of_damage fault.TooLong is same stands begins there new s =

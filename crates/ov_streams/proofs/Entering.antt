@@ -122,52 +122,64 @@ enters_more old mid new entries more one two = record {
   counts = counts_on old mid new entries more one.counts two.counts;
 }
 
--- what is still to come of these texts, whatever follows them, comes of all of them
-abbrev pub Continues : {K D : Type 0} → ℕ → ℕ → List (List ℕ) → List (List ℕ) → CoreState K D → CoreState K D → List Entry → Type 0
-Continues at n all rest first now entries =
-    (others : List (List ℕ)) (damaged : Bool) (more : List Entry) (last : State)
-    → FeedsAsked at now.state n (asked_of (rest ++ others) damaged) more last
-    → FeedsAsked at first.state n (asked_of (all ++ others) damaged) (entries ++ more) last
+-- Of all these texts those before the rest were entered. What comes of the rest, whatever follows them, goes on from there.
+pub record EntersSome {K D : Type 0} (at n : ℕ) (all rest : List (List ℕ)) (first now : CoreState K D) : Type 0 where
+  pub entries : List Entry
+  pub enters : Extends first entries now
+  pub goes_on : (others : List (List ℕ)) (damaged : Bool) (more : List Entry) (last : State)
+      → FeedsAsked at now.state n (asked_of (rest ++ others) damaged) more last
+      → FeedsAsked at first.state n (asked_of (all ++ others) damaged) (entries ++ more) last
 
-module _ {K D : Type 0} (at n : ℕ) (first now new : CoreState K D) (texts rest later : List (List ℕ)) (text : List ℕ) (is : rest ≡ text ∷ later)
-    (entries : List Entry) (en : Extends first entries now) (on : Continues at n texts rest first now entries) (one : EntersText at n text now new) where
-  -- the session is still open
-  pub continues : is_open new.state n ≡ true → Continues at n texts later first new (entries ++ one.entry ∷ [])
-  continues there others damaged more last f = elim one.outcome [
+-- no text was entered
+pub none_entered : {K D : Type 0} (at n : ℕ) (all rest : List (List ℕ)) (core : CoreState K D) → rest ≡ all → EntersSome at n all rest core core
+none_entered at n all rest core is = subst (λ (texts : List (List ℕ)). EntersSome at n all texts core core) (sym is) (record { entries = []; enters = enters_none core; goes_on = λ others damaged more last f. f })
+
+module _ {K D : Type 0} (at n : ℕ) (first now new : CoreState K D) (texts rest later : List (List ℕ)) (text : List ℕ) (is : rest ≡ text ∷ later) (some : EntersSome at n texts rest first now) (one : EntersText at n text now new) where
+  enters_it : Extends first (some.entries ++ one.entry ∷ []) new
+  enters_it = enters_more first now new some.entries (one.entry ∷ []) some.enters one.adds.enters
+
+  -- what comes of the later texts goes on from there
+  goes_on_with : is_open new.state n ≡ true → (others : List (List ℕ)) (damaged : Bool) (more : List Entry) (last : State)
+      → FeedsAsked at new.state n (asked_of (later ++ others) damaged) more last
+      → FeedsAsked at first.state n (asked_of (texts ++ others) damaged) ((some.entries ++ one.entry ∷ []) ++ more) last
+  goes_on_with there others damaged more last f = elim one.outcome [
     | inl (still, taken) ↦
-        subst (λ (k : List Entry). FeedsAsked at first.state n (asked_of (texts ++ others) damaged) k last) (sym (append_assoc entries (one.entry ∷ []) more))
-        (on others damaged (one.entry ∷ more) last (feeds_as at now.state n _ _ _ _ (ap (λ (ts : List (List ℕ)). asked_of (ts ++ others) damaged) is)
+        subst (λ (k : List Entry). FeedsAsked at first.state n (asked_of (texts ++ others) damaged) k last) (sym (append_assoc some.entries (one.entry ∷ []) more))
+        (some.goes_on others damaged (one.entry ∷ more) last (feeds_as at now.state n _ _ _ _ (ap (λ (ts : List (List ℕ)). asked_of (ts ++ others) damaged) is)
         (taken_then at n text (later ++ others) damaged now.state one.entry one.step more last still taken
         (subst (λ (s : State). FeedsAsked at s n (asked_of (later ++ others) damaged) more last) (sym one.adds.state) f))))
     | inr (shut, how) ↦ absurd (false≢true (sym (ap (λ (s : State). is_open s n) (sym one.adds.state) ∙ shut) ∙ there))
   ]
 
-  pub enters_it : Extends first (entries ++ one.entry ∷ []) new
-  enters_it = enters_more first now new entries (one.entry ∷ []) en one.adds.enters
+  -- the session is still open
+  pub text_entered : is_open new.state n ≡ true → EntersSome at n texts later first new
+  text_entered there = record { entries = some.entries ++ one.entry ∷ []; enters = enters_it; goes_on = goes_on_with there }
 
   -- the session was closed
   pub ended : is_open new.state n ≡ false → EntersTexts at n texts first new
   ended away = record {
-    entries = entries ++ one.entry ∷ [];
+    entries = some.entries ++ one.entry ∷ [];
     enters = enters_it;
     goes_on = λ there. absurd (false≢true (sym away ∙ there));
     ends = λ _ others damaged. elim one.outcome [
       | inl (still, taken) ↦ absurd (false≢true (sym (ap (λ (s : State). is_open s n) one.adds.state ∙ away) ∙ still))
       | inr (shut, how) ↦
-          on others damaged (one.entry ∷ []) new.state (feeds_as at now.state n _ _ _ _ (ap (λ (ts : List (List ℕ)). asked_of (ts ++ others) damaged) is)
+          some.goes_on others damaged (one.entry ∷ []) new.state (feeds_as at now.state n _ _ _ _ (ap (λ (ts : List (List ℕ)). asked_of (ts ++ others) damaged) is)
           (subst (λ (s : State). FeedsAsked at now.state n (asked_of (text ∷ (later ++ others)) damaged) (one.entry ∷ []) s) one.adds.state
           (ended_by at n text (later ++ others) damaged now.state one.entry one.step shut how)))
     ];
   }
 
 -- all texts were entered, and the session is open
-pub all_entered : {K D : Type 0} (at n : ℕ) (first now : CoreState K D) (texts : List (List ℕ)) (entries : List Entry) → Extends first entries now → Continues at n texts [] first now entries → is_open now.state n ≡ true → EntersTexts at n texts first now
-all_entered at n first now texts entries en on there = record {
-  entries = entries;
-  enters = en;
-  goes_on = λ _. on;
-  ends = λ away. absurd (false≢true (sym away ∙ there));
-}
+pub all_entered : {K D : Type 0} (at n : ℕ) (first now : CoreState K D) (texts rest : List (List ℕ)) → rest ≡ [] → EntersSome at n texts rest first now → is_open now.state n ≡ true → EntersTexts at n texts first now
+all_entered at n first now texts rest none some there =
+    let all : EntersSome at n texts [] first now = subst (λ (later : List (List ℕ)). EntersSome at n texts later first now) none some in
+    record {
+      entries = all.entries;
+      enters = all.enters;
+      goes_on = λ _. all.goes_on;
+      ends = λ away. absurd (false≢true (sym away ∙ there));
+    }
 
 -- a session that is open was closed
 pub it_closed : (b o : Bool) (P Q : Type 0) → MatchBool b P (Q × (o ≡ false)) → o ≡ true → P

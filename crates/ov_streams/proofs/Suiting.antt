@@ -28,7 +28,7 @@ use Rattle.ov_sessions.specs.Sessions.{most_sessions, beyond_serials, serial_lef
 use Rattle.ov_core.specs.Stepping.{IsEntered, Closes, is_full, closing}
 use Rattle.ov_core.proofs.Counted.{counts_none, counts_on}
 use Rattle.ov_sessions.proofs.Keying.{same_serial}
-use Rattle.ov_streams.specs.Feeding.{IsFed, EntersPiece}
+use Rattle.ov_streams.specs.Feeding.{IsFed, EntersPiece, fed_piece}
 use Rattle.ov_streams.specs.Running.{StreamsState, FollowsEvents, RunsEvents, HasCutter, cutter_of, stream_event_view, stream_events_view}
 use Rattle.ov_streams.proofs.Entering.{enters_none}
 
@@ -263,7 +263,7 @@ fed_other x n m bytes ne = ap (λ b. cond b (x m ++ bytes) (x m)) (ne_eqb m n ne
 
 -- the session's cutter was given its bytes
 pub was_fed : {K D : Type 0} (n : ℕ) (bytes : List ℕ) (before after : CutterState) (old new : StreamsState K D) → cutter_of n old.cutters ≡ Some before → UpdatesCutter n (Some after) old.cutters new.cutters
-    → is_open old.core.state n ≡ true → ((stream : List ℕ) → IsFed stream before → EntersPiece 0 n stream bytes old.core new.core after) → RunsEvents (streams.Feed n bytes ∷ []) old new
+    → is_open old.core.state n ≡ true → ((stream : List ℕ) → IsFed stream before → EntersPiece 0 (fed_piece n stream bytes) old.core new.core after) → RunsEvents (streams.Feed n bytes ∷ []) old new
 was_fed n bytes before after old new was updates there brings schema database list h given s =
     let b = brings (s.fed n) (subst (λ (o : Option CutterState). IsSomeAnd o (IsFed (s.fed n))) was (s.cutters n there)) in (
       b.entries,

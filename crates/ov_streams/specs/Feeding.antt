@@ -12,12 +12,22 @@ pub record IsFed (stream : List ℕ) (cutter : CutterState) : Type 0 where
   pub stands : StandsFor stream given cutter
   pub whole : (asked stream).damaged ≡ false
 
+-- a piece of a session's stream: the session, its stream before the piece, and the bytes of the piece
+pub record FedPiece : Type 0 where
+  pub session : ℕ
+  pub stream : List ℕ
+  pub bytes : List ℕ
+
+-- this session's, after this stream, of these bytes
+abbrev pub fed_piece : ℕ → List ℕ → List ℕ → FedPiece
+fed_piece session stream bytes = record { session = session; stream = stream; bytes = bytes }
+
 -- The messages that the piece ends were entered, and then damage, if it is new. If the session is still open, the cutter was
 -- given the longer stream.
-pub record EntersPiece {K D : Type 0} (at n : ℕ) (stream piece : List ℕ) (old new : CoreState K D) (cutter : CutterState) : Type 0 where
+pub record EntersPiece {K D : Type 0} (at : ℕ) (piece : FedPiece) (old new : CoreState K D) (cutter : CutterState) : Type 0 where
   pub messages : List Message
-  pub more : (asked (stream ++ piece)).messages ≡ (asked stream).messages ++ messages
+  pub more : (asked (piece.stream ++ piece.bytes)).messages ≡ (asked piece.stream).messages ++ messages
   pub entries : List Entry
-  pub feeds : Feeds at old.state n messages (asked (stream ++ piece)).damaged entries new.state
+  pub feeds : Feeds at old.state piece.session messages (asked (piece.stream ++ piece.bytes)).damaged entries new.state
   pub enters : Extends old entries new
-  pub goes_on : is_open new.state n ≡ true → IsFed (stream ++ piece) cutter
+  pub goes_on : is_open new.state piece.session ≡ true → IsFed (piece.stream ++ piece.bytes) cutter

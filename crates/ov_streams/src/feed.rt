@@ -1,7 +1,7 @@
 ghost use Rattle.std.specs.Prelude.{◌≡◌, ℕ, List, true};
 ghost use Rattle.ov_specs.specs.machine.Machine.{is_open};
 ghost use Rattle.ov_history.specs.Entries.{cause_view};
-ghost use Rattle.ov_streams.specs.Feeding.{IsFed, EntersPiece};
+ghost use Rattle.ov_streams.specs.Feeding.{IsFed, EntersPiece, fed_piece};
 ghost use Rattle.ov_streams.specs.Entering.{EntersTexts, EntersText, ClosesByEntry, cause_of_fault};
 
 use ov_base::Bytes;
@@ -24,7 +24,8 @@ pub fn feed_session<K: Keeper + Drop, D: Draws + Drop>(
 )
     requires { is_open core.old.state session.serial ≡ true }
     ensures enters { (stream : List ℕ) → IsFed stream cutter.old
-        → EntersPiece moment session.serial stream piece.now core.old core.new cutter.new }
+        → EntersPiece moment (fed_piece session.serial stream piece.now) core.old core.new
+        cutter.new }
     ensures honest { K.is_honest core.new.keeper → K.is_honest core.old.keeper }
 {
     let Fed { messages, fault } = cutter.feed(alloc, piece);

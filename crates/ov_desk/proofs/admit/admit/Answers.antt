@@ -1,3 +1,4 @@
+use Rattle.std.proofs.Common.{vec_len}
 use Rattle.ov_lanes.proofs.PlaceLaws.{goes_none}
 use Rattle.ov_desk.proofs.admit.admit.Goals as goal
 
@@ -15,3 +16,6 @@ returns-in_default-next_serial-clause-goes g c moment = goes_none moment c.args.
 
 pub returns-in-Err-clause-goes : goal.returns-in-Err-clause-goes
 returns-in-Err-clause-goes g c moment = goes_none moment c.args.hall.now.desk.core c.args.hall.now.desk.lanes.items
+
+pub returns-in-Ok-clause-answer : goal.returns-in-Ok-clause-answer
+returns-in-Ok-clause-answer g c = c.admit_at.ensures.answer (vec_len c.args.bells.now) c.args.hall.now.parts.left

@@ -1,9 +1,9 @@
 use Rattle.std.proofs.Common.{rules, ◌≡◌, ◌++◌, [], ◌∷◌, None, length, refl, sym, ap, subst, ◌∙◌, append_assoc, append-nil}
-use Rattle.ov_ends.specs.States.{source_of, sink_of}
 use Rattle.ov_lanes.specs.Pairs.{Threewise}
 use Rattle.ov_lanes.proofs.Pairs.{popped_at, popped_rest}
 use Rattle.ov_lanes.proofs.PlaceLaws.{at_below}
 use Rattle.ov_desk.specs.Ends.{EndsSeat}
+use Rattle.ov_desk.specs.LinkStates.{ends_of}
 use Rattle.ov_desk.specs.Seats.{IsSeatOf}
 use Rattle.ov_desk.proofs.Pairs.{threes_none_left}
 use Rattle.ov_desk.proofs.Seats.{last_seated, last_seat, seat_parts, seat_not_none, seat_works}
@@ -12,7 +12,7 @@ use Rattle.ov_desk.proofs.finish.finish_all.Goals as goal
 pub loop-place-init : goal.loop-place-init
 loop-place-init g c = record {
   left = c.requires.seats;
-  done = λ links seats. (links, [], [], sym (append-nil links), sym (append-nil c.args.lanes.items), seats, subst (λ l. Threewise (λ k p e. EndsSeat (source_of g.S.Source) (sink_of g.W.Sink) k p e) [] [] l) (sym c.requires.room.0) tt);
+  done = λ links seats. (links, [], [], sym (append-nil links), sym (append-nil c.args.lanes.items), seats, subst (λ l. Threewise (λ k p e. EndsSeat (ends_of g.S.Source g.W.Sink) k p e) [] [] l) (sym c.requires.room.0) tt);
   over = c.requires.over;
   room = search rules;
 }
@@ -69,8 +69,8 @@ loop-place-preserved g c =
             d.3 ∙ (ap (λ l. l ++ d.1) y.2 ∙ append_assoc y.0 (y.1 ∷ []) d.1),
             d.4 ∙ (ap (λ l. l ++ d.2) c.in-Some.ensures.items ∙ append_assoc ls' (p ∷ []) d.2),
             y.3,
-            subst (λ l. Threewise (λ k q e. EndsSeat (source_of g.S.Source) (sink_of g.W.Sink) k q e) (y.1 ∷ d.1) (p ∷ d.2) l) (sym c.push_front_reserved.ensures.items)
-                ((lane, c.in-Some-place.is, (c.finish_link.ensures.serial, c.finish_link.ensures.ends y.1 parts.1)), d.6),
+            subst (λ l. Threewise (λ k q e. EndsSeat (ends_of g.S.Source g.W.Sink) k q e) (y.1 ∷ d.1) (p ∷ d.2) l) (sym c.push_front_reserved.ensures.items)
+                ((lane, c.in-Some-place.is, c.finish_link.ensures y.1 parts.1), d.6),
           );
       over = λ at l is. was.over at l (popped_rest ls ls' p None at c.in-Some.ensures.items (at_below ls' at l is) ∙ is);
       room = search rules;
@@ -83,5 +83,5 @@ returns g c links seats =
     let left = threes_none_left IsSeatOf d.0 c.loop-place.lanes.items c.loop-place.workers.items none d.5 in
     let same : links ≡ d.1 = d.3 ∙ ap (λ l. l ++ d.1) left.0 in
     let places : c.args.lanes.items ≡ d.2 = d.4 ∙ ap (λ l. l ++ d.2) none in
-    subst (λ k. Threewise (λ k p e. EndsSeat (source_of g.S.Source) (sink_of g.W.Sink) k p e) k c.args.lanes.items c.loop-place.ends.items) (sym same)
-    (subst (λ l. Threewise (λ k p e. EndsSeat (source_of g.S.Source) (sink_of g.W.Sink) k p e) d.1 l c.loop-place.ends.items) (sym places) d.6)
+    subst (λ k. Threewise (λ k p e. EndsSeat (ends_of g.S.Source g.W.Sink) k p e) k c.args.lanes.items c.loop-place.ends.items) (sym same)
+    (subst (λ l. Threewise (λ k p e. EndsSeat (ends_of g.S.Source g.W.Sink) k p e) d.1 l c.loop-place.ends.items) (sym places) d.6)

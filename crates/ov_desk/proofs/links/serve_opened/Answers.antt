@@ -1,6 +1,7 @@
 use Rattle.std.proofs.Common.{rules, ◌≡◌, ◌++◌, ℕ, length, vec_len, ◌≤◌, refl, sym, ap, subst, ◌∙◌, arith}
 use Rattle.std.specs.VecDeque.{deque_len, deque_capacity}
-use Rattle.ov_ends.specs.States.{source_of, sink_of}
+use Rattle.ov_desk.specs.LinkStates.{ends_of}
+use Rattle.ov_desk.specs.Timed.{with_clock}
 use Rattle.ov_lanes.specs.Lanes.{SameLane, StayAs}
 use Rattle.ov_lanes.specs.Opening.{OpensAll}
 use Rattle.ov_lanes.specs.Pairs.{Threewise}
@@ -39,7 +40,7 @@ finish_all-ends-requires-clause-room g c =
     let kept = c.run.ensures.kept.2 refl refl in
     let stay : StayAs SameLane ls ms = kept_same c.run.ensures.kept.0 ls ms (kept.3 s.serves.apart) in
     let places : length ms ≡ vec_len c.run.new.hall.desk.lanes = search rules in
-    (o.room.ends.0, subst (λ (n : ℕ). n ≤ deque_capacity c.args.opened.room.ends) (sym (sym places ∙ (stay.many ∙ many))) o.room.ends.1)
+    (o.ends.0, subst (λ (n : ℕ). n ≤ deque_capacity c.args.opened.ends) (sym (sym places ∙ (stay.many ∙ many))) o.ends.1)
 
 pub returns-clause-served : goal.returns-clause-served
 returns-clause-served g c old o =
@@ -52,14 +53,14 @@ returns-clause-served g c old o =
     let kept = c.run.ensures.kept.2 refl refl in
     let stay : StayAs SameLane ls ms = kept_same c.run.ensures.kept.0 ls ms (kept.3 s.serves.apart) in
     let seats = subst (λ v. Threewise IsSeatOf c.args.links.items ms v) (ap (λ v. v.items) (sym kept.2)) (seats_later c.args.links.items ls ms c.seat_all.new.workers.items stay t.1) in
-    let runs = c.run.ensures.runs in let x = runs.serves old s.serves in let after = x.after in
+    let by = c.run.ensures.hosts in let x = (by.hosts old s.serves).0 in let after = x.after in
     let ends = c.finish_all-ends.ensures c.args.links.items seats in
     rw c.new-desk.ensures.core (record {
       since = after.since;
-      all = all_end (source_of g.S.Source) (sink_of g.W.Sink) after.since old.state.next (omega arith) c.args.links.items ms c.finish_all-ends.result.items after.fits (count_stays old.state.next ls ms stay (count_new old.state.next ls t.0)) ends;
+      all = all_end (ends_of g.S.Source g.W.Sink) after.since old.state.next (omega arith) c.args.links.items ms c.finish_all-ends.result.items after.fits (count_stays old.state.next ls ms stay (count_new old.state.next ls t.0)) ends;
       earlier = after.earlier;
-      time = time_of g.C.Clock.tells old c.args.core core c.args.clock.now c.run.new.clock opens.since.entries x.more after.since.entries runs.moments
-          (x.adds ∙ ap (λ l. l ++ x.more) (ap (λ r. r.entries) s.is)) opens.timed runs.told x.timed;
+      time = time_of g.C.Clock.tells (with_clock old c.args.clock.now) (with_clock core c.run.new.clock) c.args.core.state opens.since.entries x.more after.since.entries by.moments
+          (x.adds ∙ ap (λ l. l ++ x.more) (ap (λ r. r.entries) s.is)) opens.timed by.told x.timed;
     })
 
 pub returns-clause-honest : goal.returns-clause-honest

@@ -1,20 +1,22 @@
-use Rattle.std.proofs.Common.{sym, subst}
-use Rattle.ov_ends.specs.States.{source_of, sink_of}
+use Rattle.std.proofs.Common.{refl, sym, subst, inr}
 use Rattle.ov_desk.specs.Guests.{ServesGuests}
-use Rattle.ov_desk.specs.Serving.{ServesLobby}
+use Rattle.ov_desk.specs.LinkStates.{ends_of}
+use Rattle.ov_desk.specs.Timed.{with_clock}
 use Rattle.ov_desk.proofs.Guests.{serves_guests}
-use Rattle.ov_desk.proofs.Running.{serves_lobby}
 use Rattle.ov_desk.proofs.lobby.serve_scoped.Goals as goal
 
-pub returns-clause-served : goal.returns-clause-served
-returns-clause-served g c =
-    let s = c.shows_none_served.ensures in let core = c.args.hall.desk.core in
-    subst (λ k. ServesLobby g.C.Clock.tells core c.args.clock.now k c.run.new.clock) (sym c.leave_all.ensures.core)
-    (serves_lobby g.C.Clock.tells core c.run.new.hall.desk.core c.args.hall.desk.lanes.items c.run.new.hall.desk.lanes.items c.args.clock.now c.run.new.clock s.0 s.1 c.run.ensures.runs c.run.ensures.over)
+pub returns : goal.returns
+returns g c =
+    let ends = ends_of g.S.Source g.W.Sink in let s = c.shows_none_served.ensures in
+    let old = c.args.hall.desk in let new = c.run.new.hall.desk in
+    record {
+      guests = subst (λ k. ServesGuests ends g.C.Clock.tells (with_clock old.core c.args.clock.now) (with_clock k c.run.new.clock)) (sym c.leave_all.ensures.core)
+          (serves_guests ends g.C.Clock.tells old new c.args.clock.now c.run.new.clock s.0 s.1 c.run.ensures.hosts c.run.ensures.over c.leave_all.ensures.left);
+      refused = tt;
+      fault = tt;
+      untouched = tt;
+      honest = λ honest. c.run.ensures.honest (subst (λ core. g.K.Keeper.is_honest core.keeper) c.leave_all.ensures.core honest);
+    }
 
-pub returns-clause-guests : goal.returns-clause-guests
-returns-clause-guests g c =
-    let source = λ (s : _). source_of g.S.Source s in let sink = λ (s : _). sink_of g.W.Sink s in
-    let s = c.shows_none_served.ensures in let core = c.args.hall.desk.core in
-    subst (λ k. ServesGuests source sink g.C.Clock.tells core c.args.clock.now k c.run.new.clock) (sym c.leave_all.ensures.core)
-    (serves_guests source sink g.C.Clock.tells core c.run.new.hall.desk.core c.args.hall.desk.lanes.items c.run.new.hall.desk.lanes.items c.args.clock.now c.run.new.clock s.0 s.1 c.run.ensures.hosts c.run.ensures.over c.leave_all.ensures.left)
+pub returns-in_default : goal.returns-in_default
+returns-in_default g c = record { guests = tt; refused = (refl, refl); fault = inr refl; untouched = refl; honest = tt }

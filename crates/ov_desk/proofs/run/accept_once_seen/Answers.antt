@@ -1,32 +1,25 @@
-use Rattle.std.proofs.Common.{subst, vec_len}
-use Rattle.ov_ends.specs.States.{source_of, sink_of}
-use Rattle.ov_lanes.proofs.PlaceLaws.{goes_none, goes_along}
-use Rattle.ov_desk.proofs.Guests.{leaves_none, leaves_along, leaves_same}
-use Rattle.ov_desk.proofs.Halls.{admitted_stays}
+use Rattle.std.proofs.Common.{ap, subst, vec_len}
+use Rattle.ov_core.specs.Following.{CoreState}
+use Rattle.ov_desk.specs.LinkStates.{ends_of}
+use Rattle.ov_desk.proofs.Guests.{leaves_same, session_tended, hosts_of, hosts_steady, hosts_none, hosts_along}
+use Rattle.ov_desk.proofs.Halls.{admitted_stays, admitted_open}
 use Rattle.ov_desk.proofs.run.accept_once_seen.Goals as goal
 
-pub returns-in_default-clause-leaves : goal.returns-in_default-clause-leaves
-returns-in_default-clause-leaves g c = leaves_none (source_of g.S.Source) (sink_of g.W.Sink) c.args.hall.now.desk.lanes.items
+pub returns-in_default-clause-hosts : goal.returns-in_default-clause-hosts
+returns-in_default-clause-hosts g c moment = hosts_none (ends_of g.S.Source g.W.Sink) moment c.args.hall.now.desk
 
-pub returns-in-Message-clause-leaves : goal.returns-in-Message-clause-leaves
-returns-in-Message-clause-leaves g c =
-    let source = λ (s : _). source_of g.S.Source s in let sink = λ (s : _). sink_of g.W.Sink s in
-    let ls = c.args.hall.now.desk.lanes.items in let ms = c.tend.new.self.desk.lanes.items in let ns = c.admit.new.hall.desk.lanes.items in
-    leaves_along source sink ls ms ns c.tend.ensures.leaves
-    (leaves_same source sink ms ns (admitted_stays (vec_len c.args.bells.now) c.tend.new.self.parts.left c.tend.new.self.desk.core c.admit.new.hall.desk.core ms ns c.admit.result c.admit.ensures.answer))
+pub returns-in-Message-clause-hosts : goal.returns-in-Message-clause-hosts
+returns-in-Message-clause-hosts g c moment =
+    let ends = ends_of g.S.Source g.W.Sink in let tends = c.tend.ensures.tends in let answer = c.admit.ensures.answer in
+    let a = c.args.hall.now.desk in let b = c.tend.new.self.desk in let d = c.admit.new.hall.desk in
+    let ls = a.lanes.items in let ms = b.lanes.items in let ns = d.lanes.items in
+    let bells = vec_len c.args.bells.now in let parts = c.tend.new.self.parts.left in
+    hosts_along ends moment a b d
+    (hosts_steady ends moment a b (tends.goes moment) (session_tended ends ls ms tends.leaves) (ap (λ (k : CoreState _ _). k.state.next) tends.core))
+    (hosts_of ends moment b d (c.admit.ensures.goes moment) (session_tended ends ms ns (leaves_same ends ms ns (admitted_stays bells parts b d c.admit.result answer))) (admitted_open bells parts b d c.admit.result answer))
 
-pub returns-in-End-clause-leaves : goal.returns-in-End-clause-leaves
-returns-in-End-clause-leaves g c = leaves_none (source_of g.S.Source) (sink_of g.W.Sink) c.args.hall.now.desk.lanes.items
-
-pub returns-in_default-clause-goes : goal.returns-in_default-clause-goes
-returns-in_default-clause-goes g c moment = goes_none moment c.args.hall.now.desk.core c.args.hall.now.desk.lanes.items
-
-pub returns-in-Message-clause-goes : goal.returns-in-Message-clause-goes
-returns-in-Message-clause-goes g c moment =
-    goes_along moment c.args.hall.now.desk.lanes.items c.tend.new.self.desk.lanes.items c.admit.new.hall.desk.lanes.items (c.tend.ensures.goes moment) (c.admit.ensures.goes moment)
-
-pub returns-in-End-clause-goes : goal.returns-in-End-clause-goes
-returns-in-End-clause-goes g c moment = goes_none moment c.args.hall.now.desk.core c.args.hall.now.desk.lanes.items
+pub returns-in-End-clause-hosts : goal.returns-in-End-clause-hosts
+returns-in-End-clause-hosts g c moment = hosts_none (ends_of g.S.Source g.W.Sink) moment c.args.hall.now.desk
 
 pub returns-in-Message-clause-honest : goal.returns-in-Message-clause-honest
-returns-in-Message-clause-honest g c honest = subst (λ core. g.K.Keeper.is_honest core.keeper) c.tend.ensures.core (c.admit.ensures.honest honest)
+returns-in-Message-clause-honest g c honest = subst (λ core. g.K.Keeper.is_honest core.keeper) c.tend.ensures.tends.core (c.admit.ensures.honest honest)

@@ -1,20 +1,17 @@
 use Rattle.std.proofs.Common.{refl}
-use Rattle.ov_ends.specs.States.{source_of, sink_of}
-use Rattle.ov_desk.proofs.Guests.{session_tended, session_stays}
+use Rattle.ov_desk.specs.LinkStates.{ends_of}
+use Rattle.ov_desk.proofs.Guests.{session_stays, hosts_steady}
 use Rattle.ov_desk.proofs.Running.{kept_noted}
 use Rattle.ov_desk.proofs.Seats.{seats_stay}
 use Rattle.ov_desk.proofs.run.take_noted.Goals as goal
 
-pub returns-then-is_some-clause-goes : goal.returns-then-is_some-clause-goes
-returns-then-is_some-clause-goes g c = c.accept_once_seen.ensures.goes c.args.moment
+pub returns-then-is_some-clause-hosts : goal.returns-then-is_some-clause-hosts
+returns-then-is_some-clause-hosts g c = c.accept_once_seen.ensures.hosts c.args.moment
 
-pub returns-then-is_some-clause-leaves : goal.returns-then-is_some-clause-leaves
-returns-then-is_some-clause-leaves g c =
-    session_tended (source_of g.S.Source) (sink_of g.W.Sink) c.args.hall.now.desk.lanes.items c.accept_once_seen.new.hall.desk.lanes.items c.accept_once_seen.ensures.leaves
-
-pub returns-clause-leaves : goal.returns-clause-leaves
-returns-clause-leaves g c =
-    session_stays (source_of g.S.Source) (sink_of g.W.Sink) c.args.hall.now.desk.lanes.items c.turn_once_seen.new.desk.lanes.items c.turn_once_seen.ensures.rings
+pub returns-clause-hosts : goal.returns-clause-hosts
+returns-clause-hosts g c =
+    let ends = ends_of g.S.Source g.W.Sink in let a = c.args.hall.now.desk in let b = c.turn_once_seen.new.desk in
+    hosts_steady ends c.args.moment a b c.turn_once_seen.ensures.goes (session_stays ends a.lanes.items b.lanes.items c.turn_once_seen.ensures.rings) c.turn_once_seen.ensures.steady.next
 
 pub returns-clause-kept : goal.returns-clause-kept
 returns-clause-kept g c keeps none = (
@@ -26,3 +23,6 @@ returns-clause-kept g c keeps none = (
 
 pub returns-clause-seats : goal.returns-clause-seats
 returns-clause-seats g c = seats_stay c.args.hall.now.keeps c.args.hall.now.desk.lanes.items c.turn_once_seen.new.desk.lanes.items c.args.hall.now.workers.items c.turn_once_seen.ensures.rings c.requires.seats
+
+pub returns-clause-honest : goal.returns-clause-honest
+returns-clause-honest g c = c.turn_once_seen.ensures.steady.honest

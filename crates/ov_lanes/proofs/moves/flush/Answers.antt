@@ -9,6 +9,7 @@ use Rattle.ov_lanes.specs.Fitting.{FitsCourse}
 use Rattle.ov_lanes.specs.Moving.{GivesUp}
 use Rattle.ov_lanes.proofs.Moving.{flushes_marked, flushes_open, flushes_shut, flushes_given_up}
 use Rattle.ov_lanes.proofs.Single.{flushes_as}
+use Rattle.ov_lanes.proofs.Steady.{steady_none, moves_next, gives_up_next}
 use Rattle.ov_lanes.proofs.Flushing.{quiet_marked, quiet_moved, gives_up_now, flushed_open}
 use Rattle.ov_lanes.proofs.moves.flush.Goals as goal
 
@@ -82,3 +83,24 @@ returns-else-not-is_open-clause-gives_up g c =
     let e = c.if-not-move_frames.ensures in
     quiet_moved l.session.serial c.args.core.now c.move_frames.new.core (sent l.outbound) (sent m.outbound) l m e.moves c.if-lane.false
     (flushed_open l.session.serial c.args.core.now c.move_frames.new.core (sent l.outbound) (sent m.outbound) m e.moves (ap (λ s. s.serial) e.inbound.2) (search rules))
+
+pub returns-then-lane-clause-steady : goal.returns-then-lane-clause-steady
+returns-then-lane-clause-steady g c = steady_none g.K.Keeper.is_honest c.args.core.now
+
+pub returns-then-not-move_frames-clause-steady : goal.returns-then-not-move_frames-clause-steady
+returns-then-not-move_frames-clause-steady g c =
+    let l = c.args.lane.now in let m = c.move_frames.new.lane in let e = c.if-not-move_frames.ensures in
+    record {
+      next = gives_up_next m.session.serial m.cause c.give_up.new.lane.cause c.give_up.ensures.gives_up ∙ moves_next l.session.serial false (sent l.outbound) (sent m.outbound) e.moves;
+      honest = λ honest. e.honest (c.give_up.ensures.honest honest);
+    }
+
+pub returns-then-not-is_open-clause-steady : goal.returns-then-not-is_open-clause-steady
+returns-then-not-is_open-clause-steady g c =
+    let l = c.args.lane.now in
+    record { next = moves_next l.session.serial true (sent l.outbound) (sent c.move_frames.new.lane.outbound) c.if-not-move_frames.ensures.moves; honest = c.if-not-move_frames.ensures.honest }
+
+pub returns-else-not-is_open-clause-steady : goal.returns-else-not-is_open-clause-steady
+returns-else-not-is_open-clause-steady g c =
+    let l = c.args.lane.now in
+    record { next = moves_next l.session.serial true (sent l.outbound) (sent c.move_frames.new.lane.outbound) c.if-not-move_frames.ensures.moves; honest = c.if-not-move_frames.ensures.honest }

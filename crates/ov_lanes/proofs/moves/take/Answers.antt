@@ -1,9 +1,9 @@
-use Rattle.std.proofs.Common.{◌++◌, [], ◌∷◌, ℕ, refl, ap, subst, ◌∙◌}
+use Rattle.std.proofs.Common.{◌++◌, [], ◌∷◌, refl, ap, ◌∙◌}
 use Rattle.rtrb.specs.Ring.{sent, received}
-use Rattle.ov_lanes.specs.Moving.{TakesItem}
 use Rattle.ov_lanes.proofs.Moving.{moves_item}
 use Rattle.ov_lanes.proofs.Single.{moves_as, flushing_of}
 use Rattle.ov_lanes.proofs.PlaceLaws.{looked_moves}
+use Rattle.ov_lanes.proofs.Steady.{steady_none, item_next}
 use Rattle.ov_lanes.proofs.moves.take.Goals as goal
 
 pub returns-in_default-clause-moves : goal.returns-in_default-clause-moves
@@ -13,13 +13,15 @@ returns-in_default-clause-moves g c first since fits =
 pub returns-in_default-clause-taken : goal.returns-in_default-clause-taken
 returns-in_default-clause-taken g c = (refl, (c.in_default.ensures.empty.0, refl, refl, refl, refl, refl))
 
+pub returns-in_default-clause-steady : goal.returns-in_default-clause-steady
+returns-in_default-clause-steady g c = steady_none g.K.Keeper.is_honest c.args.core.now
+
 pub returns-clause-moves : goal.returns-clause-moves
 returns-clause-moves g c first since fits =
     let l = c.args.lane.now in let v = c.flush.new.lane in let w = c.take_item.new.lane in
     let n = l.session.serial in let item = c.in-Ok.item in let items = received l.inbound in
     let same = c.flush.ensures.inbound.2 in
     let s = flushing_of c.args.moment since items _ v same (c.flush.ensures.flushes c.args.moment first since items fits) in
-    let takes = subst (λ (k : ℕ). TakesItem g.D.Draws.draws c.args.moment item k c.flush.new.core c.take_item.new.core v.cause w.cause v.ended w.ended) (ap (λ k. k.serial) same) c.take_item.ensures.takes in
     moves_as c.args.moment since l w w.cause (items ++ item ∷ []) (sent v.outbound) v.marked w.ended
     (record {
       serial = ap (λ k. k.serial) (c.take_item.ensures.same.0 ∙ same);
@@ -29,4 +31,10 @@ returns-clause-moves g c first since fits =
       is_marked = c.take_item.ensures.same.1;
       is_ended = refl;
     })
-    (moves_item c.args.moment n since v.cause items (sent v.outbound) v.marked v.ended s g.D.Draws.draws item w.cause w.ended takes)
+    (moves_item c.args.moment since items (sent v.outbound) v.marked v w n (ap (λ k. k.serial) same) s g.D.Draws.draws item c.take_item.ensures.takes)
+
+pub returns-clause-steady : goal.returns-clause-steady
+returns-clause-steady g c = record {
+  next = item_next c.flush.new.core c.take_item.new.core g.D.Draws.draws c.args.moment c.in-Ok.item c.flush.new.lane c.take_item.new.lane c.take_item.ensures.takes ∙ c.flush.ensures.steady.next;
+  honest = λ honest. c.flush.ensures.steady.honest (c.take_item.ensures.honest honest);
+}

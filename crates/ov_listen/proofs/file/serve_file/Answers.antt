@@ -12,24 +12,26 @@ by_answer P Q (Err fault) whole kinds = kinds
 pub returns-then-not-closes_file : goal.returns-then-not-closes_file
 returns-then-not-closes_file g c =
     let opened = c.store_in_file-store.ensures in
-    let stays : closes_file c.serve_store-ending.result.0 ≡ false = first_of (search rules, cc) in
+    let stays : closes_file c.in-Ok.ended.ending ≡ false = first_of (search rules, cc) in
     record {
       store = c.store_in_file-store.result;
-      core = c.serve_store-ending.result.1;
+      ended = c.serve_store.result;
       opened = record { found = opened.found; fresh = opened.fresh; refused = opened.refused };
-      ends = c.serve_store-ending.ensures;
-      closed = rw (c.in-Some.is, stays) refl;
+      ends = c.serve_store.ensures;
+      ending = rw c.in-Ok.is refl;
+      closed = rw (c.in-Ok.is, stays) refl;
     }
 
 pub returns : goal.returns
 returns g c =
     let opened = c.store_in_file-store.ensures in
     let closing = c.close_in_file.ensures in
-    let closes : closes_file c.serve_store-ending.result.0 ≡ true = first_of (search rules, cc) in
+    let closes : closes_file c.in-Ok.ended.ending ≡ true = first_of (search rules, cc) in
     record {
       store = c.store_in_file-store.result;
-      core = c.serve_store-ending.result.1;
+      ended = c.serve_store.result;
       opened = record { found = opened.found; fresh = opened.fresh; refused = opened.refused };
-      ends = c.serve_store-ending.ensures;
-      closed = rw (c.in-Some.is, closes) (by_answer _ _ c.close_in_file.result (rw c.into_keeper.ensures.same at closing.whole) closing.kinds);
+      ends = c.serve_store.ensures;
+      ending = rw c.in-Ok.is refl;
+      closed = rw (c.in-Ok.is, closes) (by_answer _ _ c.close_in_file.result (rw c.into_keeper.ensures.same at closing.whole) closing.kinds);
     }

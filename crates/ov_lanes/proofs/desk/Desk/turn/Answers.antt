@@ -1,5 +1,6 @@
 use Rattle.std.proofs.Common.{refl}
 use Rattle.ov_lanes.proofs.PlaceLaws.{goes_none, goes_along}
+use Rattle.ov_lanes.proofs.Steady.{steady_none, steady_along}
 use Rattle.ov_lanes.proofs.Turning.{stay_same, stay_then_puts, look_self, turned}
 use Rattle.ov_lanes.proofs.desk.Desk.turn.Goals as goal
 
@@ -12,15 +13,21 @@ returns-in_default-clause-rings g c = stay_same c.args.self.now.lanes.items
 pub returns-in_default-clause-turns : goal.returns-in_default-clause-turns
 returns-in_default-clause-turns g c = (refl, look_self c.args.self.now.lanes.items)
 
+pub returns-in_default-clause-steady : goal.returns-in_default-clause-steady
+returns-in_default-clause-steady g c = steady_none g.K.Keeper.is_honest c.args.self.now.core
+
 pub returns-clause-goes : goal.returns-clause-goes
 returns-clause-goes g c =
-    goes_along c.args.moment c.args.self.now.lanes.items c.take_at.new.lanes.items c.flush_all.new.lanes.items c.take_at.ensures.goes (c.flush_all.ensures.goes c.args.moment)
+    goes_along c.args.moment c.args.self.now.lanes.items c.take_at.new.self.lanes.items c.flush.new.self.lanes.items c.take_at.ensures.goes (c.flush.ensures.flushes.goes c.args.moment)
 
 pub returns-clause-rings : goal.returns-clause-rings
-returns-clause-rings g c = stay_then_puts c.args.self.now.lanes.items c.take_at.new.lanes.items c.flush_all.new.lanes.items c.take_at.ensures.rings c.flush_all.ensures.rings
+returns-clause-rings g c = stay_then_puts c.args.self.now.lanes.items c.take_at.new.self.lanes.items c.flush.new.self.lanes.items c.take_at.ensures.rings c.flush.ensures.flushes.rings
 
 pub returns-clause-turns : goal.returns-clause-turns
 returns-clause-turns g c = (
-  turned c.args.serial c.in-Some.at c.args.self.now.lanes.items c.take_at.new.lanes.items c.flush_all.new.lanes.items c.in-Some.ensures.1 c.if-not-take_at.ensures.taken c.flush_all.ensures.rings,
-  c.flush_all.ensures.flushed,
+  turned c.args.serial c.in-Some.at c.args.self.now.lanes.items c.take_at.new.self.lanes.items c.flush.new.self.lanes.items c.in-Some.ensures.1 c.if-not-take_at.ensures.taken c.flush.ensures.flushes.rings,
+  c.flush.ensures.flushed,
 )
+
+pub returns-clause-steady : goal.returns-clause-steady
+returns-clause-steady g c = steady_along g.K.Keeper.is_honest c.args.self.now.core c.take_at.new.self.core c.flush.new.self.core c.take_at.ensures.steady c.flush.ensures.flushes.steady

@@ -1,0 +1,17 @@
+-- What contracts see of the two ends of a link.
+use Rattle.ov_ends.specs.States.{SourceState, SinkState, source_of, sink_of}
+use Rattle.ov_ends.specs.declared.ends.Source as reading
+use Rattle.ov_ends.specs.declared.ends.Sink as writing
+
+-- of its reader and of its writer
+pub record LinkState : Type 0 where
+  pub source : SourceState
+  pub sink : SinkState
+
+-- these two
+abbrev pub link_state : SourceState → SinkState → LinkState
+link_state source sink = record { source = source; sink = sink }
+
+-- those of a source and a sink
+abbrev pub ends_of : {S W : Type 0} → reading.Ghosts S → writing.Ghosts W → S → W → LinkState
+ends_of reads writes reader writer = link_state (source_of reads reader) (sink_of writes writer)
