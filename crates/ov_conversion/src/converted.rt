@@ -18,7 +18,7 @@ use uuid::Uuid;
 /// The rows of the old schema as rows of the new one. Rows of tables that both schemas have are carried over: each column of
 /// both keeps its value, a new column gets its default (RFC 7047, 5.2.1), and other columns are dropped. A row whose columns
 /// change gets this version, others keep theirs. Then the rules of a commit are applied (RFC 7047, 3.2): rows that nothing
-/// keeps any more are removed, and weak references to missing rows.
+/// keeps are removed, and weak references to missing rows.
 ///
 /// Looks at all rows a few times, and once more for each turn in which rows lose their last support. The rows before are
 /// unchanged.

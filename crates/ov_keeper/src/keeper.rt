@@ -31,7 +31,7 @@ pub struct Loaded {
 
 /// Stores the schema and the rows. Its contracts speak of what an open at this moment would find.
 pub trait Keeper {
-    /// No wrong answer of the device has been taken as true so far.
+    /// No wrong answer of the device was taken as true.
     ghost is_honest: { Self → Type 0 };
 
     /// What an open at this moment may find, including one after a crash.

@@ -13,7 +13,7 @@ use std::sync::ledger::{Book, Ledger, Share};
 const NOTE_LIMIT: usize = 4_160;
 
 /// The notes of the workers, the oldest first, and whether the workers may begin. Contracts see the notes that wait, how
-/// many were taken, and what was said of the beginning.
+/// many were taken, and whether the workers may begin, once that is decided.
 ///
 /// The number noted is the number taken plus the number waiting. It is also the total of the ledger `L`: each worker that
 /// notes holds a share of it, so all shares together add up to the number noted.
@@ -40,7 +40,8 @@ impl<L: Ledger> Model for OrderBook<L> {
 }
 
 impl<L: Ledger> OrderBook<L> {
-    /// A book with nothing noted, and nothing said of the beginning. Allocates the room for all notes that may wait.
+    /// A book with nothing noted, and not yet decided whether the workers may begin. Allocates the room for all notes that may
+    /// wait.
     pub fn new(alloc: Global, ledger: Book<L>) -> Result<OrderBook<L>, AllocError>
         requires { ledger.total ≡ 0 }
         ensures { IfOk result (λ b. b ≡ record { waiting = []; taken = 0; begun = None }) }

@@ -29,7 +29,8 @@ pub struct Order<L: Ledger> {
 }
 
 impl<L: Ledger> Order<L> {
-    /// A book with nothing noted, and nothing said of the beginning. Allocates the room for all notes that may wait.
+    /// A book with nothing noted, and not yet decided whether the workers may begin. Allocates the room for all notes that may
+    /// wait.
     pub fn new(alloc: Global, ledger: Book<L>) -> Result<Order<L>, AllocError>
         requires { ledger.total ≡ 0 }
     {

@@ -44,8 +44,8 @@ fn is_at(line: &CellLine, table: &str, id: Uuid) -> bool
     line.table.as_str() == table && line.id == id
 }
 
-/// The place of the row with this key, looked for from a place on, and then from the start: the cells of rows mostly stand in the
-/// order of the rows, since both are written together.
+/// The place of the row with this key, searched from a place on, and then from the start: cells are mostly in the order of
+/// their rows, since both are written together.
 fn place_of(lines: &[CellLine], from: usize, table: &str, id: Uuid) -> Option<usize>
     ensures { MatchOption result (list_any
         (λ l. same_key (line_parts l).0 (table.now, id)) lines.now ≡ false)

@@ -1,5 +1,5 @@
-//! The rows of the two stored formats in SQLite: what they stand for, how they are read and written, and which fault an error is
-//! meanwhile. A rewrite brings format 1 to format 2.
+//! The rows of the two stored formats in SQLite: what they stand for, how they are read and written, and which fault an error
+//! stands for. A rewrite brings format 1 to format 2.
 //!
 //! Everything here is about an open connection whose tables `ov_tables` has found or made. Opening one over files, and keeping
 //! rows in it, is the task of `ov_store`, which has no SQL. The calls are generic over the kit's `Alter`.

@@ -123,7 +123,7 @@ pub fn store_in_file<S: Start>(
 
 /// A new store in memory, with this schema text and no rows, in stored format 2. Refused when out of memory, at a limit of
 /// SQLite, and by a device as `store_over` is. What is promised under an honest device needs no such premise here: in memory
-/// every store is honest, this one and what becomes of it.
+/// every store is honest, at any later time too.
 pub fn store_in_memory(
     alloc: Global,
     schema: Text,

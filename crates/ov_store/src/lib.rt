@@ -1,7 +1,7 @@
-//! A keeper that stores rows in SQLite: it keeps all of a commit or nothing of it, also over a crash.
+//! A keeper that stores rows in SQLite: it keeps all of a commit or nothing of it, even across a crash.
 //!
-//! The store is generic over the kit's `Alter`: only `file` and `memory` know which files are below. The tables that hold
-//! the rows are those of `ov_tables`, and what is read and written in them is asked of `ov_sqlite`.
+//! The store is generic over the kit's `Alter`: only `file` and `memory` know which files are below. `ov_tables` has the
+//! tables that hold the rows, and `ov_sqlite` reads and writes them.
 #![tactic(auto)]
 
 mod close;

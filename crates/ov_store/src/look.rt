@@ -63,7 +63,7 @@ fn test_real(rt: &HostRuntime, db: &str) -> Result<(), KeepFault>
     }
 }
 
-/// Opens the copies as files are opened, and passes only what is not foreign.
+/// Opens the copies as files are opened, and accepts them unless they are foreign.
 fn test_copies(alloc: Global, copies: Copies) -> Result<(), KeepFault>
     ensures passes { OnOk result
         (IsNobodyElses (record { log = copies.log.items; db = copies.db.items })) }

@@ -137,7 +137,7 @@ pub record HasTable (schema : Schema) (table : Table) : Type 0 where
   pub apart : list_all (is_apart table.tree schema) schema.tables ≡ true
   pub allowed : list_all (is_allowed (key_index table.name) table.tree) schema.indexes ≡ true
 
--- everything else leaves the table alone, where the index of its primary key has this name
+-- nothing else concerns the table, and the index of its primary key has this name
 abbrev pub IsAlone : Schema → Table → List ℕ → Type 0
 IsAlone schema table key =
     (list_all (λ t. not (t.tree == table.tree) || same_name t.name table.name) schema.tables ≡ true)

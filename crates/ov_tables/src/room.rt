@@ -35,14 +35,14 @@ fn have_key_to(tables: &[Table], name: &[u8]) -> bool
     tables.iter().any(|table| has_key_to(table, name))
 }
 
-/// Whether the rows of any table are counted.
+/// Whether a table has an AUTOINCREMENT key.
 fn are_counted(tables: &[Table]) -> bool
     ensures { result ≡ list_any (λ t. t.is_counted) tables.now }
 {
     tables.iter().any(|table| table.is_counted)
 }
 
-/// Whether SQLite's table of the counts exists.
+/// Whether `sqlite_sequence` exists.
 fn has_sequence(schema: &Schema) -> bool
     ensures { result ≡ is_some (sequence schema.now) }
 {
@@ -52,7 +52,7 @@ fn has_sequence(schema: &Schema) -> bool
     }
 }
 
-/// Whether rows are counted and the table of the counts is missing: SQLite would make it beside the next table.
+/// Whether a table has an AUTOINCREMENT key and `sqlite_sequence` is missing: SQLite would make it beside the next table.
 pub(crate) fn lacks_sequence(schema: &Schema) -> bool
     ensures { result ≡ lacks_sequence schema.now }
 {

@@ -103,7 +103,7 @@ fn has_places(key: &Items<usize>, places: &[usize]) -> bool
     key.as_slice() == places
 }
 
-/// Whether these places alone are unique.
+/// Whether these columns are the only unique key.
 fn is_only_key(uniques: &[Items<usize>], places: &[usize]) -> bool
     ensures { IsTrue result ↔ (uniques.now ≡ places.now ∷ []) }
 {
@@ -248,7 +248,7 @@ fn are_allowed(key: &[u8], tree: u32, schema: &Schema) -> bool
         .all(|index| is_allowed(key, tree, index))
 }
 
-/// Whether everything else leaves the table alone, where the index of its primary key has this name.
+/// Whether nothing else concerns the table, and the index of its primary key has this name.
 fn is_alone(schema: &Schema, table: &Table, key: &[u8]) -> bool
     ensures { IsTrue result ↔ IsAlone schema.now table.now key.now }
 {

@@ -5,7 +5,7 @@ use std::sync::ledger::Ledger;
 /// What all workers have in common.
 #[derive_where(Clone, Copy)]
 pub struct Common<'s, R, L: Ledger, G> {
-    /// The runtime, with whose leave they wait and start threads.
+    /// The runtime, by which they wait and start threads.
     pub rt: &'s R,
     /// Where messages are allocated.
     pub alloc: Global,

@@ -94,8 +94,7 @@ fn read_link<R: Wait, L: Ledger, G: Gate, S: Source + Drop>(
     }
 }
 
-/// Waits until it was said whether the workers may begin, and then for what is handed: reads a reader to its end, and does
-/// nothing if there is none.
+/// Waits until `begin` was called, and then for what is handed: reads a reader to its end, and does nothing if there is none.
 fn read_handed<R: Wait, L: Ledger, G: Gate, S: Source + Drop>(
     common: Common<'_, R, L, G>,
     keeps: bool,
@@ -132,8 +131,8 @@ pub struct Reading<S: Source, L: Ledger> {
 /// After the stream has ended, a thread that `keeps` returns the reader; another one drops it at once, before it can be
 /// joined.
 ///
-/// The thread sleeps until it is said whether the workers may begin, whatever is said. Soon after that it has to be handed a
-/// reader or be dismissed: until then it looks for it again and again.
+/// The thread sleeps until `begin` was called, with either answer. Soon after that it has to be handed a reader or be
+/// dismissed: until then it looks for it again and again.
 pub fn start_reader<'s, E, R, L, G, S>(
     common: Common<'s, R, L, G>,
     scope: &Scope<'s, E>,

@@ -25,15 +25,15 @@ pub struct Workers<S: Source, W: Sink, L: Ledger> {
     pub writing: Writing<W>,
 }
 
-/// Starts the threads of a session's workers in the scope. If one can't be started, says that no worker may begin, unless
-/// something was said before, and leaves no thread of the two.
+/// Starts the threads of a session's workers in the scope. If one can't be started, calls `begin(false)`, unless `begin` was
+/// called before, and leaves no thread of the two.
 ///
 /// A thread that `keeps` its end of the link returns it as it ends; another one drops it at once, so that the connection
 /// closes. As its last act the writer's thread calls `bell.say_over()`, also if it was dismissed: renew the bell before it is
 /// used again.
 ///
-/// The threads sleep until it is said whether the workers may begin, whatever is said. Soon after that they have to be
-/// handed a link or be dismissed: until then they look for it again and again.
+/// The threads sleep until `begin` was called, with either answer. Soon after that they have to be handed a link or be
+/// dismissed: until then they look for it again and again.
 pub fn start_workers<'s, E, R, L, G, S, W>(
     common: Common<'s, R, L, G>,
     scope: &Scope<'s, E>,

@@ -21,7 +21,7 @@ pub struct WriteEnd<W> {
     pub writer: W,
     /// The worker's end of the ring, from which it took the end mark last.
     pub ring: Consumer<Sent>,
-    /// Whether a write or a flush failed, once; after that it dropped what it took.
+    /// Whether a write or a flush failed; the frames after it were dropped.
     pub failed: bool,
 }
 

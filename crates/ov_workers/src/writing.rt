@@ -95,8 +95,8 @@ fn write_link<R: Wait, L: Ledger, G: Gate, W: Sink + Drop>(
     }
 }
 
-/// Waits until it was said whether the workers may begin, and then for what is handed: writes to a writer up to the end
-/// mark, and does nothing if there is none. Its last act is to say that it is over.
+/// Waits until `begin` was called, and then for what is handed: writes to a writer up to the end mark, and does nothing if
+/// there is none. Its last act is to say that it is over.
 fn write_handed<R: Wait, L: Ledger, G: Gate, W: Sink + Drop>(
     common: Common<'_, R, L, G>,
     bell: &Bell,
@@ -135,8 +135,8 @@ pub struct Writing<W: Sink> {
 /// After the end mark, a thread that `keeps` returns the writer; another one drops it at once, before it can be joined. As
 /// its last act the thread calls `bell.say_over()`, also if it was handed no writer.
 ///
-/// The thread sleeps until it is said whether the workers may begin, whatever is said. Soon after that it has to be handed a
-/// writer or be dismissed: until then it looks for it again and again.
+/// The thread sleeps until `begin` was called, with either answer. Soon after that it has to be handed a writer or be
+/// dismissed: until then it looks for it again and again.
 pub fn start_writer<'s, E, R, L, G, W>(
     common: Common<'s, R, L, G>,
     scope: &Scope<'s, E>,

@@ -82,7 +82,7 @@ pub record Outstanding : Type 0 where
 pub record State : Type 0 where
   pub schema : Schema  -- of the database
   pub database : Database  -- as it was committed
-  pub sealed : Option Database  -- after a commit that failed, the database that it would have made: nothing is committed any more
+  pub sealed : Option Database  -- after a commit that failed, the database that it would have made; no later commit is made
   pub sessions : List Session  -- the open ones, in order of opening
   pub queues : Queues  -- of the locks that sessions asked for
   pub outstanding : List Outstanding  -- the transactions that wait, in order of arrival
@@ -351,8 +351,8 @@ commits s session id results database (Some Failed) = Some (record { state = rec
 commits s session id results database outcome = None
 
 -- What comes of a transaction with these results and this database after it. If that is the database as it was, the store is
--- not asked. A sealed database no longer asks the store, and answers as if the store failed. Otherwise the store is asked to
--- keep the change (RFC 7047, 4.1.3).
+-- not asked. If the database is sealed, the store is not asked, and the answer is as if it had failed. Otherwise the store is
+-- asked to keep the change (RFC 7047, 4.1.3).
 abbrev pub completes : State → ℕ → Data → Items → Database → Option Outcome → Option Stepped
 completes s session id results database outcome =
     if same_database s.database database then sends_at_once s (results_to session id results) outcome
