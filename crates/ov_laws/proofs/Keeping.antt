@@ -14,14 +14,13 @@ use Rattle.ov_specs.specs.operations.Errors.{InputOutput}
 use Rattle.ov_specs.specs.operations.Transaction.{TransactionOutcome, Completes, transaction, has_error, failed_results}
 use Rattle.ov_specs.specs.rows.Database.{Database, same_database}
 use Rattle.ov_specs.specs.schema.SchemaTypes.{Schema}
-use Rattle.ov_specs.specs.values.Uuid.{Uuid}
 use Rattle.ov_specs.specs.wire.Message.{Message}
 use Rattle.ov_specs.proofs.laws.Histories.{Leads, leads_more, run_parts, run_none}
 use Rattle.ov_specs.proofs.laws.Tries.{left_by, sent_by, emptied, pass_first, settle_first, takes_first, tick_first}
 use Rattle.ov_specs.proofs.laws.Works.{sending, keeping, sealing, blocked, canceling, watching, when_is, work_has}
 use Rattle.ov_laws.specs.Databases.{if_suits, kept_by_passes, kept_by_settling, kept_by_message, kept_by_event, at_moment_of, kept_by, commits_in}
-use Rattle.ov_laws.specs.Making.{is_transaction, takes_another}
-use Rattle.ov_laws.specs.Tries.{SettlingTries, tries_next, tries_on, tries_anew, EventTries, tries_message, tries_after, tries_waiting}
+use Rattle.ov_laws.specs.Making.{Arrival, arrival_of, tried_in, is_transaction, takes_another}
+use Rattle.ov_laws.specs.Tries.{Trial, SettlingTries, tries_next, tries_on, tries_anew, EventTries, tries_message, tries_after, tries_waiting}
 use Rattle.ov_laws.proofs.Attempts.{OfAttempt, try_is, arrival_is, and_item-error}
 use Rattle.ov_laws.proofs.Counting.{commits, is_commit, one_if, commits-append, event-commits}
 use Rattle.ov_laws.proofs.Kept.{kept_by_passes-first}
@@ -57,22 +56,43 @@ listed-parts number (a ∷ attempts) = by (eqb a.number number)
 
 -- ---- what holds on the way
 
+-- what is to hold of the databases and of the transactions that wait: the schema, which transactions were taken, and which
+-- database is made of which, by what outcome and after how many that were kept
+pub record Rules : Type 1 where
+  pub schema : Schema
+  pub IsTaken : Arrival → Type 0
+  pub Made : Outcome → ℕ → Database → Database → Type 0
+
+-- where attempts begin: after how many databases that were kept, with which one, and with which one that a failed commit would
+-- have made
+pub record Start : Type 0 where
+  pub number : ℕ
+  pub database : Database
+  pub sealed : Option Database
+
+-- the start in a state
+abbrev pub start_at : ℕ → State → Start
+start_at n s = record { number = n; database = s.database; sealed = s.sealed }
+
 -- What holds after attempts that kept these databases: each is made of the one before it, beginning with the first, as the next
--- ones after n; so is the one that a failed commit would have made; after that none is kept; and those that wait were taken.
-pub record Goes (schema : Schema) (IsTaken : ℕ → Data → List Uuid → Items → ℕ → Type 0) (R : Outcome → ℕ → Database → Database → Type 0) (n : ℕ) (first : Database) (seal : Option Database) (kept : List Database) (s : State) : Type 0 where
-  pub schema_is : s.schema ≡ schema
-  pub path : Path (R Committed) n first kept s.database
-  pub failed : ((d : Database) → seal ≡ Some d → R Failed n first d) → (d : Database) → s.sealed ≡ Some d → R Failed (after_all n kept) s.database d
-  pub stays : (d : Database) → seal ≡ Some d → (s.sealed ≡ Some d) × (kept ≡ [])
-  pub waiting : AllByRecursion (λ o. IsTaken o.session o.id o.draws o.operations o.arrival) s.outstanding
+-- ones after the start; so is the one that a failed commit would have made; after that none is kept; and those that wait were
+-- taken.
+pub record Goes (rules : Rules) (start : Start) (kept : List Database) (s : State) : Type 0 where
+  pub schema_is : s.schema ≡ rules.schema
+  pub path : Path (rules.Made Committed) start.number start.database kept s.database
+  pub failed : ((d : Database) → start.sealed ≡ Some d → rules.Made Failed start.number start.database d)
+      → (d : Database) → s.sealed ≡ Some d → rules.Made Failed (after_all start.number kept) s.database d
+  pub stays : (d : Database) → start.sealed ≡ Some d → (s.sealed ≡ Some d) × (kept ≡ [])
+  pub waiting : AllByRecursion (λ o. rules.IsTaken (arrival_of o)) s.outstanding
 
 -- one way after another
-pub goes_then : (schema : Schema) (I J : ℕ → Data → List Uuid → Items → ℕ → Type 0) (R : Outcome → ℕ → Database → Database → Type 0) (n : ℕ) (first : Database) (seal : Option Database) (kept more : List Database) (s t : State)
-    → Goes schema I R n first seal kept s → Goes schema J R (after_all n kept) s.database s.sealed more t → Goes schema J R n first seal (kept ++ more) t
-goes_then schema I J R n first seal kept more s t a b = record {
+pub goes_then : (rules : Rules) (IsEarlier : Arrival → Type 0) (start : Start) (kept more : List Database) (s t : State)
+    → Goes (record rules { IsTaken = IsEarlier }) start kept s → Goes rules (start_at (after_all start.number kept) s) more t
+    → Goes rules start (kept ++ more) t
+goes_then rules IsEarlier start kept more s t a b = record {
   schema_is = b.schema_is;
-  path = path-append (R Committed) n first kept s.database more t.database a.path b.path;
-  failed = λ made d sealed. subst (λ k. R Failed k t.database d) (sym (after_all-append n kept more)) (b.failed (a.failed made) d sealed);
+  path = path-append (rules.Made Committed) start.number start.database kept s.database more t.database a.path b.path;
+  failed = λ made d sealed. subst (λ k. rules.Made Failed k t.database d) (sym (after_all-append start.number kept more)) (b.failed (a.failed made) d sealed);
   stays = λ d sealed.
       let one = a.stays d sealed in
       let two = b.stays d one.0 in
@@ -91,33 +111,40 @@ length-and_kept kept false d = omega arith
 
 -- What an entry is to know of its event: what was taken, that attempts make what is to be made, and that results reply to what
 -- is to be told.
-pub record Entering (schema : Schema) (IsTaken : ℕ → Data → List Uuid → Items → ℕ → Type 0) (R : Outcome → ℕ → Database → Database → Type 0) (T : List Database → ℕ → Data → Items → Type 0) (n : ℕ) (s : State) (c : Choice) (what : Event) : Type 0 where
-  pub there : s.schema ≡ schema
-  pub waiting : AllByRecursion (λ o. IsTaken o.session o.id o.draws o.operations o.arrival) s.outstanding
-  pub new : (session : ℕ) (message : Message) (id : Data) (operations : Items) → what ≡ Take session message → work_of s session message ≡ Transact id operations → IsTaken session id c.draws operations s.moment
-  pub makes : (made left : List Attempt) (number : ℕ) (u : State) (o : Outstanding) (outcome : Outcome) (results : Items) (after : Database)
-      → c.outcomes ≡ made ++ left → EventTries s c what number left u o → IsTaken o.session o.id o.draws o.operations o.arrival → (listed number left).outcome ≡ Some outcome
-      → transaction schema u.database (owns u.queues o.session) o.draws (u.moment - o.arrival) o.operations ≡ Completes results after → same_database u.database after ≡ false
-      → R outcome (n + commits made) u.database after
-  pub replies : (made left : List Attempt) (number : ℕ) (u : State) (o : Outstanding) (results : Items) (after : Database) (ds former next : List Database)
-      → c.outcomes ≡ made ++ left → EventTries s c what number left u o → IsTaken o.session o.id o.draws o.operations o.arrival
-      → transaction schema u.database (owns u.queues o.session) o.draws (u.moment - o.arrival) o.operations ≡ Completes results after
-      → length former ≡ commits made → ds ≡ former ++ u.database ∷ next → ((same_database u.database after ≡ true) ⊎ ((more : List Database) × (next ≡ after ∷ more)))
-      → T ds o.session o.id results
+pub record Entering (rules : Rules) (T : List Database → ℕ → Data → Items → Type 0) (n : ℕ) (s : State) (c : Choice) (what : Event) : Type 0 where
+  pub there : s.schema ≡ rules.schema
+  pub waiting : AllByRecursion (λ o. rules.IsTaken (arrival_of o)) s.outstanding
+  pub new : (session : ℕ) (message : Message) (id : Data) (operations : Items) → what ≡ Take session message → work_of s session message ≡ Transact id operations
+      → rules.IsTaken (arrival_of (arrived s session id c.draws operations))
+  pub makes : (made : List Attempt) (trial : Trial) (outcome : Outcome) (results : Items) (after : Database)
+      → c.outcomes ≡ made ++ trial.left → EventTries s c what trial → rules.IsTaken (arrival_of trial.tried) → (listed trial.number trial.left).outcome ≡ Some outcome
+      → tried_in rules.schema trial.state trial.tried ≡ Completes results after → same_database trial.state.database after ≡ false
+      → rules.Made outcome (n + commits made) trial.state.database after
+  pub replies : (made : List Attempt) (trial : Trial) (results : Items) (after : Database) (ds former next : List Database)
+      → c.outcomes ≡ made ++ trial.left → EventTries s c what trial → rules.IsTaken (arrival_of trial.tried)
+      → tried_in rules.schema trial.state trial.tried ≡ Completes results after
+      → length former ≡ commits made → ds ≡ former ++ trial.state.database ∷ next → ((same_database trial.state.database after ≡ true) ⊎ ((more : List Database) × (next ≡ after ∷ more)))
+      → T ds trial.tried.session trial.tried.id results
   pub grows : (ds more : List Database) (session : ℕ) (id : Data) (results : Items) → T ds session id results → T (ds ++ more) session id results
 
 -- ---- one event
 
-module _ (schema : Schema) (IsTaken : ℕ → Data → List Uuid → Items → ℕ → Type 0) (R : Outcome → ℕ → Database → Database → Type 0) (T : List Database → ℕ → Data → Items → Type 0) (n0 : ℕ) (s0 : State) (c : Choice) (what : Event) (ok : Entering schema IsTaken R T n0 s0 c what) where
+module _ (rules : Rules) (T : List Database → ℕ → Data → Items → Type 0) (n0 : ℕ) (s0 : State) (c : Choice) (what : Event) (ok : Entering rules T n0 s0 c what) where
   abbrev Its : Outstanding → Type 0
-  Its o = IsTaken o.session o.id o.draws o.operations o.arrival
+  Its o = rules.IsTaken (arrival_of o)
+
+  abbrev Made : Outcome → ℕ → Database → Database → Type 0
+  Made = rules.Made
+
+  abbrev start : Start
+  start = start_at n0 s0
 
   abbrev Told : Type 0
   Told = takes_another s0 what ≡ false
 
   -- it holds, and what is sent tells of these databases
   abbrev Course : List Database → State → List Sent → Type 0
-  Course kept s sent = Goes schema IsTaken R n0 s0.database s0.sealed kept s × (Told → AllByRecursion (Tells T (s0.database ∷ kept)) sent)
+  Course kept s sent = Goes rules start kept s × (Told → AllByRecursion (Tells T (s0.database ∷ kept)) sent)
 
   -- as many are kept as attempts off the list
   abbrev Counted : List Database → List Attempt → Type 0
@@ -140,11 +167,11 @@ module _ (schema : Schema) (IsTaken : ℕ → Data → List Uuid → Items → �
 
   -- the same databases, and others that wait
   goes_aside : (kept : List Database) (s t : State)
-      → t.schema ≡ s.schema → t.database ≡ s.database → t.sealed ≡ s.sealed → Goes schema IsTaken R n0 s0.database s0.sealed kept s → AllByRecursion Its t.outstanding → Goes schema IsTaken R n0 s0.database s0.sealed kept t
+      → t.schema ≡ s.schema → t.database ≡ s.database → t.sealed ≡ s.sealed → Goes rules start kept s → AllByRecursion Its t.outstanding → Goes rules start kept t
   goes_aside kept s t schema_is database sealed goes all = record {
     schema_is = schema_is ∙ goes.schema_is;
-    path = subst (Path (R Committed) n0 s0.database kept) (sym database) goes.path;
-    failed = λ made d is. subst (λ before. R Failed (after_all n0 kept) before d) (sym database) (goes.failed made d (sym sealed ∙ is));
+    path = subst (Path (Made Committed) n0 s0.database kept) (sym database) goes.path;
+    failed = λ made d is. subst (λ before. Made Failed (after_all n0 kept) before d) (sym database) (goes.failed made d (sym sealed ∙ is));
     stays = λ d is. let both = goes.stays d is in (sealed ∙ both.0, both.1);
     waiting = all;
   }
@@ -161,7 +188,10 @@ module _ (schema : Schema) (IsTaken : ℕ → Data → List Uuid → Items → �
     closes : (n : ℕ) → Course kept (closed s n).state (sent ++ (closed s n).sent)
     closes n = aside (closed s n) refl refl refl (all-filter Its (λ o. not (eqb o.session n)) s.outstanding course.0.waiting) (λ told. freed-tell T (s0.database ∷ kept) (freed n s.queues))
 
-    module _ (number : ℕ) (left : List Attempt) (counted : Counted kept left) (o : Outstanding) (try : EventTries s0 c what number left s o) (its : Its o) where
+    module _ (number : ℕ) (left : List Attempt) (counted : Counted kept left) (o : Outstanding) (try : EventTries s0 c what (record { number = number; left = left; state = s; tried = o })) (its : Its o) where
+      abbrev trial : Trial
+      trial = record { number = number; left = left; state = s; tried = o }
+
       -- after the attempt
       abbrev After : Option Outcome → Stepped → Type 0
       After outcome x = (listed number left).outcome ≡ outcome → Course (and_kept kept (is_kept outcome) x.state.database) x.state (sent ++ x.sent)
@@ -171,7 +201,7 @@ module _ (schema : Schema) (IsTaken : ℕ → Data → List Uuid → Items → �
         abbrev r : TransactionOutcome
         r = transaction s.schema s.database (owns s.queues o.session) o.draws age o.operations
 
-        completes-too : (results : Items) (database : Database) → r ≡ Completes results database → transaction schema s.database (owns s.queues o.session) o.draws (s.moment - o.arrival) o.operations ≡ Completes results database
+        completes-too : (results : Items) (database : Database) → r ≡ Completes results database → tried_in rules.schema s o ≡ Completes results database
         completes-too results database completes =
             ap₂ (λ (v : Schema) (k : ℕ). transaction v s.database (owns s.queues o.session) o.draws k o.operations) (sym course.0.schema_is) (sym aged) ∙ completes
 
@@ -179,9 +209,9 @@ module _ (schema : Schema) (IsTaken : ℕ → Data → List Uuid → Items → �
         replies : (results : Items) (database : Database) (rest : List Database) → r ≡ Completes results database → ((same_database s.database database ≡ true) ⊎ ((more : List Database) × (rest ≡ database ∷ more)))
             → T ((s0.database ∷ kept) ++ rest) o.session o.id results
         replies results database rest completes which =
-            let (earlier, is, long) = path-last (R Committed) n0 s0.database kept s.database course.0.path in
+            let (earlier, is, long) = path-last (Made Committed) n0 s0.database kept s.database course.0.path in
             let (made, listed_is, count) = counted in
-            ok.replies made left number s o results database ((s0.database ∷ kept) ++ rest) earlier rest listed_is try its (completes-too results database completes)
+            ok.replies made trial results database ((s0.database ∷ kept) ++ rest) earlier rest listed_is try its (completes-too results database completes)
             (long ∙ sym count) (ap (λ l. l ++ rest) is ∙ append_assoc earlier (s.database ∷ []) rest) which
 
         -- nothing changes
@@ -196,11 +226,11 @@ module _ (schema : Schema) (IsTaken : ℕ → Data → List Uuid → Items → �
         error_tells results error = (reply-tells T (s0.database ∷ kept) o.session o.id results (λ fine. absurd (false≢true (sym fine ∙ error))), tt)
 
         module _ (results : Items) (database : Database) (completes : r ≡ Completes results database) (changes : same_database s.database database ≡ false) (unsealed : s.sealed ≡ None) where
-          makes : (outcome : Outcome) → (listed number left).outcome ≡ Some outcome → R outcome (after_all n0 kept) s.database database
+          makes : (outcome : Outcome) → (listed number left).outcome ≡ Some outcome → Made outcome (after_all n0 kept) s.database database
           makes outcome own =
               let (made, listed_is, count) = counted in
-              subst (λ k. R outcome k s.database database) (ap (λ k. n0 + k) count ∙ sym (after_all-is n0 kept))
-              (ok.makes made left number s o outcome results database listed_is try its own (completes-too results database completes) changes)
+              subst (λ k. Made outcome k s.database database) (ap (λ k. n0 + k) count ∙ sym (after_all-is n0 kept))
+              (ok.makes made trial outcome results database listed_is try its own (completes-too results database completes) changes)
 
           not_sealed : {B : Type 0} (d : Database) → s.sealed ≡ Some d → B
           not_sealed d sealed = absurd (no (sym unsealed ∙ sealed))
@@ -213,7 +243,7 @@ module _ (schema : Schema) (IsTaken : ℕ → Data → List Uuid → Items → �
           keeps_change own = (
             record {
               schema_is = course.0.schema_is;
-              path = path-append (R Committed) n0 s0.database kept s.database (database ∷ []) database course.0.path (makes Committed own, refl);
+              path = path-append (Made Committed) n0 s0.database kept s.database (database ∷ []) database course.0.path (makes Committed own, refl);
               failed = λ made d sealed. not_sealed d sealed;
               stays = λ d seal_is. not_sealed d (course.0.stays d seal_is).0;
               waiting = course.0.waiting;
@@ -233,7 +263,7 @@ module _ (schema : Schema) (IsTaken : ℕ → Data → List Uuid → Items → �
             record {
               schema_is = course.0.schema_is;
               path = course.0.path;
-              failed = λ made d sealed. subst (R Failed (after_all n0 kept) s.database) (same_Some database d sealed) (makes Failed own);
+              failed = λ made d sealed. subst (Made Failed (after_all n0 kept) s.database) (same_Some database d sealed) (makes Failed own);
               stays = λ d seal_is. not_sealed d (course.0.stays d seal_is).0;
               waiting = course.0.waiting;
             },
@@ -259,7 +289,7 @@ module _ (schema : Schema) (IsTaken : ℕ → Data → List Uuid → Items → �
 
   -- what settling tries from here, the event tries
   abbrev Tries : State → List Outstanding → ℕ → List Attempt → Type 0
-  Tries s waiting number attempts = (n : ℕ) (left : List Attempt) (u : State) (x : Outstanding) → SettlingTries s waiting number attempts n left u x → EventTries s0 c what n left u x
+  Tries s waiting number attempts = (trial : Trial) → SettlingTries s waiting number attempts trial → EventTries s0 c what trial
 
   -- after a pass
   abbrev Passes : List Database → List Sent → Passed → Type 0
@@ -291,7 +321,8 @@ module _ (schema : Schema) (IsTaken : ℕ → Data → List Uuid → Items → �
         let own : Listed = listed number attempts in
         let t : Stepped = x.first in
         let tries' : Tries s (o ∷ still_waiting s waiting) number attempts = subst (λ l. Tries s l number attempts) (ap (λ b. cond b (o ∷ still_waiting s waiting) (still_waiting s waiting)) x.open') tries in
-        let try : EventTries s0 c what number attempts s o = tries' number attempts s o (tries_next s o (still_waiting s waiting) number attempts) in
+        let next : Trial = record { number = number; left = attempts; state = s; tried = o } in
+        let try : EventTries s0 c what next = tries' next (tries_next s o (still_waiting s waiting) number attempts) in
         let so : (y : Outstanding) → is_open t.state y.session ≡ true → is_open s y.session ≡ true = λ y. opens_none s o own.outcome t x.try y.session in
         let after = try_goes kept s sent course number attempts counted o try all.0 t x.try in
         let counted' = counted_next kept number attempts t.state.database counted in
@@ -300,8 +331,8 @@ module _ (schema : Schema) (IsTaken : ℕ → Data → List Uuid → Items → �
               let kept' : Course (kept ++ t.state.database ∷ []) t.state (sent ++ t.sent) = subst (λ b. Course (and_kept kept b t.state.database) t.state (sent ++ t.sent)) ends.0 after in
               let changed : Changes s true t = subst (λ b. Changes s b t) ends.0 (try_changes s o own.outcome t x.try) in
               let anew : Tries (emptied t.state) (still_waiting t.state (t.state.outstanding ++ still_waiting t.state waiting)) (number + 1) own.others =
-              λ n left u y on. tries' n left u y (tries_anew s o (still_waiting s waiting) number attempts t n left u y x.try changed
-              (subst (λ l. SettlingTries (emptied t.state) l (number + 1) own.others n left u y)
+              λ trial on. tries' trial (tries_anew s o (still_waiting s waiting) number attempts t trial x.try changed
+              (subst (λ l. SettlingTries (emptied t.state) l (number + 1) own.others trial)
               (waiting-open t.state (λ z. is_open t.state z.session) (λ z open'. open') t.state.outstanding waiting ∙ sym (waiting-open t.state (λ z. is_open s z.session) so t.state.outstanding waiting)) on)) in
               subst (Passes kept (sent ++ t.sent)) ends.1 (
                 subst (Course (kept ++ t.state.database ∷ []) (waits_after t.state waiting)) (sym (append-nil (sent ++ t.sent))) (back_goes (kept ++ t.state.database ∷ []) t.state (sent ++ t.sent) waiting kept' all.1),
@@ -311,8 +342,8 @@ module _ (schema : Schema) (IsTaken : ℕ → Data → List Uuid → Items → �
           | inr on ↦
               let same : Changes s false t = subst (λ b. Changes s b t) on.0 (try_changes s o own.outcome t x.try) in
               let later : Tries t.state (still_waiting t.state waiting) (number + 1) own.others =
-              λ n left u y h'. tries' n left u y (tries_on s o (still_waiting s waiting) number attempts t n left u y x.try same
-              (subst (λ l. SettlingTries t.state l (number + 1) own.others n left u y) (sym (filter-within (λ z. is_open t.state z.session) (λ z. is_open s z.session) so waiting)) h')) in
+              λ trial h'. tries' trial (tries_on s o (still_waiting s waiting) number attempts t trial x.try same
+              (subst (λ l. SettlingTries t.state l (number + 1) own.others trial) (sym (filter-within (λ z. is_open t.state z.session) (λ z. is_open s z.session) so waiting)) h')) in
               pass_goes kept t.state (sent ++ t.sent) (number + 1) own.others waiting x.rest (subst (λ b. Course (and_kept kept b t.state.database) t.state (sent ++ t.sent)) on.0 after)
               (subst (λ b. Counted (and_kept kept b t.state.database) own.others) on.0 counted') later all.1 on.1
         ])
@@ -374,7 +405,8 @@ module _ (schema : Schema) (IsTaken : ℕ → Data → List Uuid → Items → �
   work_goes : (n : ℕ) (message : Message) → what ≡ Take n message → (t : Stepped) (w : Work) → work_of s0 n message ≡ w → works s0 n c.draws (listed 1 c.outcomes).outcome w ≡ Some t → AfterFirst (is_kept (listed 1 c.outcomes).outcome) t
   work_goes n message is t (Transact id operations) asks h =
       let o : Outstanding = arrived s0 n id c.draws operations in
-      let try : EventTries s0 c what 1 c.outcomes s0 o = subst (λ v. EventTries s0 c v 1 c.outcomes s0 o) (sym is) (tries_message s0 c n message id operations asks) in
+      let first : Trial = record { number = 1; left = c.outcomes; state = s0; tried = o } in
+      let try : EventTries s0 c what first = subst (λ v. EventTries s0 c v first) (sym is) (tries_message s0 c n message id operations asks) in
       let its : Its o = ok.new n message id operations is asks in
       let aged : 0 ≡ s0.moment - s0.moment = omega arith in
       arrival_is (After [] s0 [] none 1 c.outcomes counted_none o try its) s0 n c.draws id operations (λ own. closes [] s0 [] none n)
@@ -393,7 +425,7 @@ module _ (schema : Schema) (IsTaken : ℕ → Data → List Uuid → Items → �
             let kept' : Course (x.first.state.database ∷ []) x.first.state x.first.sent = subst (λ b. AfterFirst b x.first) was_kept first_goes in
             let counted' : Counted (x.first.state.database ∷ []) own.others = subst (λ b. Counted (and_kept [] b x.first.state.database) own.others) was_kept (counted_next [] 1 c.outcomes x.first.state.database counted_none) in
             let tries : Tries (emptied x.first.state) (still_waiting x.first.state x.first.state.outstanding) 2 own.others =
-            λ k left u y on. subst (λ v. EventTries s0 c v k left u y) (sym is) (tries_after s0 c n message (tried x.first) k left u y (ap (option_map tried) x.work) was_kept on) in
+            λ trial on. subst (λ v. EventTries s0 c v trial) (sym is) (tries_after s0 c n message (tried x.first) trial (ap (option_map tried) x.work) was_kept on) in
             subst (λ l. Course l t.state t.sent) (sym (kept-is x.first x.work true was_kept))
             (subst (λ (v : Stepped). Course (keeps (tried x.first) true) v.state v.sent) same (settle_goes (x.first.state.database ∷ []) x.first.state x.first.sent 2 own.others p kept' counted' tries settled))
       ]
@@ -421,20 +453,20 @@ module _ (schema : Schema) (IsTaken : ℕ → Data → List Uuid → Items → �
       subst (λ (v : Stepped). Course [] v.state v.sent) (same_Some (closed s0 n) t (when_is (is_without_choice c && is_open s0 n) (Some (closed s0 n)) t h)) (closes [] s0 [] none n)
   event_goes Tick t is h =
       let (p, settled, same) = tick_first s0 c t (when_is (none_drawn c) (ends (option_map (λ p. p.tried) (settle s0 1 c.outcomes))) t h) in
-      let tries : Tries (emptied s0) (still_waiting s0 s0.outstanding) 1 c.outcomes = λ k left u y on. subst (λ v. EventTries s0 c v k left u y) (sym is) (tries_waiting s0 c k left u y on) in
+      let tries : Tries (emptied s0) (still_waiting s0 s0.outstanding) 1 c.outcomes = λ trial on. subst (λ v. EventTries s0 c v trial) (sym is) (tries_waiting s0 c trial on) in
       subst (λ (v : Stepped). Course (kept_by_settling s0 1 c.outcomes) v.state v.sent) same (settle_goes [] s0 [] 1 c.outcomes p none counted_none tries settled)
 
   pub happens_goes : (t : Stepped) → happens s0 c what ≡ Some t
-      → Goes schema IsTaken R n0 s0.database s0.sealed (kept_by_event s0 c what) t.state × (takes_another s0 what ≡ false → AllByRecursion (Tells T (s0.database ∷ kept_by_event s0 c what)) t.sent)
+      → Goes rules start (kept_by_event s0 c what) t.state × (takes_another s0 what ≡ false → AllByRecursion (Tells T (s0.database ∷ kept_by_event s0 c what)) t.sent)
   happens_goes t h = event_goes what t refl h
 
 -- what an entry keeps, and what it sends
-pub step_goes : (schema : Schema) (IsTaken : ℕ → Data → List Uuid → Items → ℕ → Type 0) (R : Outcome → ℕ → Database → Database → Type 0) (T : List Database → ℕ → Data → Items → Type 0) (n : ℕ) (s : State) (e : Entry) (t : Stepped)
-    → Entering schema IsTaken R T n (at_moment_of e s) e.choice e.event → step s e ≡ Some t
-    → Goes schema IsTaken R n s.database s.sealed (kept_by_event (at_moment_of e s) e.choice e.event) t.state
+pub step_goes : (rules : Rules) (T : List Database → ℕ → Data → Items → Type 0) (n : ℕ) (s : State) (e : Entry) (t : Stepped)
+    → Entering rules T n (at_moment_of e s) e.choice e.event → step s e ≡ Some t
+    → Goes rules (start_at n s) (kept_by_event (at_moment_of e s) e.choice e.event) t.state
     × (takes_another (at_moment_of e s) e.event ≡ false → AllByRecursion (Tells T (s.database ∷ kept_by_event (at_moment_of e s) e.choice e.event)) t.sent)
-step_goes schema IsTaken R T n s e t ok h =
-    happens_goes schema IsTaken R T n (at_moment_of e s) e.choice e.event ok t (when_is (nat_le s.moment e.choice.moment) (happens (at_moment_of e s) e.choice e.event) t h)
+step_goes rules T n s e t ok h =
+    happens_goes rules T n (at_moment_of e s) e.choice e.event ok t (when_is (nat_le s.moment e.choice.moment) (happens (at_moment_of e s) e.choice e.event) t h)
 
 -- ---- a run
 
@@ -447,30 +479,34 @@ commits-more : (h : List Entry) (e : Entry) → length (commits_in (h ++ e ∷ [
 commits-more [] e = commits-append e.choice.outcomes [] ∙ omega arith
 commits-more (d ∷ h) e = omega (arith, commits-append d.choice.outcomes (flat_map (λ x. x.choice.outcomes) (h ++ e ∷ [])), commits-append d.choice.outcomes (flat_map (λ x. x.choice.outcomes) h), commits-more h e)
 
-module _ (schema : Schema) (first : State) (history : List Entry) (IsTaken : List Entry → ℕ → Data → List Uuid → Items → ℕ → Type 0) (R : Outcome → ℕ → Database → Database → Type 0) where
+module _ (schema : Schema) (first : State) (history : List Entry) (IsTaken : List Entry → Arrival → Type 0) (Made : Outcome → ℕ → Database → Database → Type 0) where
+  -- the rules after these entries
+  abbrev pub rules_after : List Entry → Rules
+  rules_after done = record { schema = schema; IsTaken = IsTaken done; Made = Made }
+
   -- after these entries, what the next one is to know
   abbrev pub Enters : Type 0
   Enters = (done : List Entry) (e : Entry) (later : List Entry) (s : State) (n : ℕ) → history ≡ done ++ e ∷ later → Leads first done s → s.schema ≡ schema
-      → AllByRecursion (λ o. IsTaken done o.session o.id o.draws o.operations o.arrival) s.outstanding → n ≡ length (commits_in done)
-      → Entering schema (IsTaken (done ++ e ∷ [])) R no_reply n (at_moment_of e s) e.choice e.event
+      → AllByRecursion (λ o. IsTaken done (arrival_of o)) s.outstanding → n ≡ length (commits_in done)
+      → Entering (rules_after (done ++ e ∷ [])) no_reply n (at_moment_of e s) e.choice e.event
 
   pub run_goes : Enters → (h done : List Entry) (n : ℕ) (s : State) (t : Stepped) → history ≡ done ++ h → Leads first done s → s.schema ≡ schema
-      → AllByRecursion (λ o. IsTaken done o.session o.id o.draws o.operations o.arrival) s.outstanding → n ≡ length (commits_in done) → run s h ≡ Some t
-      → Goes schema (IsTaken (done ++ h)) R n s.database s.sealed (kept_by s h) t.state
+      → AllByRecursion (λ o. IsTaken done (arrival_of o)) s.outstanding → n ≡ length (commits_in done) → run s h ≡ Some t
+      → Goes (rules_after (done ++ h)) (start_at n s) (kept_by s h) t.state
   run_goes enters [] done n s t is leads there waiting count r =
-      subst (λ l. Goes schema (IsTaken l) R n s.database s.sealed [] t.state) (sym (append-nil done))
-      (subst (Goes schema (IsTaken done) R n s.database s.sealed []) (run_none s t r) (record { schema_is = there; path = refl; failed = λ made. made; stays = λ d sealed. (sealed, refl); waiting = waiting }))
+      subst (λ l. Goes (rules_after l) (start_at n s) [] t.state) (sym (append-nil done))
+      (subst (Goes (rules_after done) (start_at n s) []) (run_none s t r) (record { schema_is = there; path = refl; failed = λ made. made; stays = λ d sealed. (sealed, refl); waiting = waiting }))
   run_goes enters (e ∷ h) done n s t is leads there waiting count r =
       let parts = run_parts s e h t r in
       let own : List Database = kept_by_event (at_moment_of e s) e.choice e.event in
       let more : List Database = kept_by parts.first.state h in
-      let one : Goes schema (IsTaken (done ++ e ∷ [])) R n s.database s.sealed own parts.first.state =
-      (step_goes schema (IsTaken (done ++ e ∷ [])) R no_reply n s e parts.first (enters done e h s n is leads there waiting count) parts.stepped).0 in
+      let one : Goes (rules_after (done ++ e ∷ [])) (start_at n s) own parts.first.state =
+      (step_goes (rules_after (done ++ e ∷ [])) no_reply n s e parts.first (enters done e h s n is leads there waiting count) parts.stepped).0 in
       let kept : commits e.choice.outcomes ≡ length own =
       event-commits (at_moment_of e s) e.choice e.event parts.first (when_is (nat_le s.moment e.choice.moment) (happens (at_moment_of e s) e.choice e.event) parts.first parts.stepped) in
       let count' : after_all n own ≡ length (commits_in (done ++ e ∷ [])) = after_all-is n own ∙ (ap₂ (λ k m. k + m) count (sym kept) ∙ sym (commits-more done e)) in
       let rest = run_goes enters h (done ++ e ∷ []) (after_all n own) parts.first.state parts.rest (is ∙ sym (append_assoc done (e ∷ []) h)) (leads_more first done s e parts.first leads parts.stepped) one.schema_is one.waiting count' parts.runs in
-      subst (λ l. Goes schema (IsTaken (done ++ e ∷ h)) R n s.database s.sealed l t.state) (sym (ap (λ o. if_suits o (λ (v : Stepped). own ++ kept_by v.state h)) parts.stepped))
-      (subst (Goes schema (IsTaken (done ++ e ∷ h)) R n s.database s.sealed (own ++ more)) parts.state
-      (subst (λ l. Goes schema (IsTaken l) R n s.database s.sealed (own ++ more) parts.rest.state) (append_assoc done (e ∷ []) h)
-      (goes_then schema (IsTaken (done ++ e ∷ [])) (IsTaken ((done ++ e ∷ []) ++ h)) R n s.database s.sealed own more parts.first.state parts.rest.state one rest)))
+      subst (λ l. Goes (rules_after (done ++ e ∷ h)) (start_at n s) l t.state) (sym (ap (λ o. if_suits o (λ (v : Stepped). own ++ kept_by v.state h)) parts.stepped))
+      (subst (Goes (rules_after (done ++ e ∷ h)) (start_at n s) (own ++ more)) parts.state
+      (subst (λ l. Goes (rules_after l) (start_at n s) (own ++ more) parts.rest.state) (append_assoc done (e ∷ []) h)
+      (goes_then (rules_after ((done ++ e ∷ []) ++ h)) (IsTaken (done ++ e ∷ [])) (start_at n s) own more parts.first.state parts.rest.state one rest)))

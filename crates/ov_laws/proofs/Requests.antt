@@ -205,21 +205,31 @@ opens_other before n stream s h e t stepped turn ne k =
     let later : Keeps n stream (is_open s n) (s.next + 1) (requests h n) (closed_by before h n) = record { to_come = λ high. k.keeps.to_come (omega arith); going = k.keeps.going; gone = k.keeps.gone } in
     turned before n stream s h e t (is_open s n || eqb s.next n) (s.next + 1) [] None stepped turn k.leads (keeps_same n stream o refl (sym (append-nil (requests h n))) (sym (option_or_none (closed_by before h n))) later)
 
+-- what a stream event comes to: its entries, and the state and the streams after them
+record Expansion : Type 0 where
+  pub entries : List Entry
+  pub state : State
+  pub streams : Streams
+
 -- what comes of an event that is nothing to a state
-abbrev Stays : State → Streams → List Entry → State → Streams → Type 0
-Stays s streams entries new after = (entries ≡ []) × (new ≡ s) × (after ≡ streams)
+abbrev Stays : State → Streams → Expansion → Type 0
+Stays s streams made = (made.entries ≡ []) × (made.state ≡ s) × (made.streams ≡ streams)
 
 -- what comes of the end of an open session's bytes
-abbrev Ended : ℕ → State → Streams → ℕ → List Entry → State → Streams → Type 0
-Ended at s streams m entries new after = (e : Entry) × (t : Stepped) × (entries ≡ e ∷ []) × IsEntryAt at s (Close m InputEnded) e t × (new ≡ t.state) × (after ≡ streams)
+abbrev Ended : ℕ → State → Streams → ℕ → Expansion → Type 0
+Ended at s streams m made =
+    (e : Entry) × (t : Stepped) × (made.entries ≡ e ∷ []) × IsEntryAt at s (Close m InputEnded) e t × (made.state ≡ t.state) × (made.streams ≡ streams)
 
 -- what comes of bytes of an open session
-abbrev Pieces : ℕ → State → Streams → ℕ → List ℕ → List Entry → State → Streams → Type 0
-Pieces at s streams m bytes entries new after =
+abbrev Pieces : ℕ → State → Streams → ℕ → List ℕ → Expansion → Type 0
+Pieces at s streams m bytes made =
     (messages : List Message) × ((asked (streams m ++ bytes)).messages ≡ (asked (streams m)).messages ++ messages)
-    × Feeds at s m messages (asked (streams m ++ bytes)).damaged entries new × (after ≡ with_fed streams m bytes)
+    × Feeds at s m messages (asked (streams m ++ bytes)).damaged made.entries made.state × (made.streams ≡ with_fed streams m bytes)
 
 module _ (before : State) (at n : ℕ) (s : State) (streams : Streams) (h k : List Entry) (new : State) (after : Streams) (keeps : KeepsAt before n (streams n) s h) where
+  abbrev made : Expansion
+  made = record { entries = k; state = new; streams = after }
+
   -- a session opens
   expands_open : (e : Entry) (t : Stepped) → k ≡ e ∷ [] → IsEntryAt at s Open e t → new ≡ t.state → after ≡ streams → KeepsAt before n (after n) new (h ++ k)
   expands_open e t one enters state same = single before n streams h k e t new after one state same (elim (cases_eq s.next n) [
@@ -228,7 +238,7 @@ module _ (before : State) (at n : ℕ) (s : State) (streams : Streams) (h k : Li
   ])
 
   -- the bytes of the session end
-  ended_own : is_open s n ≡ true → Ended at s streams n k new after → KeepsAt before n (after n) new (h ++ k)
+  ended_own : is_open s n ≡ true → Ended at s streams n made → KeepsAt before n (after n) new (h ++ k)
   ended_own there (e, t, one, enters, state, same) =
       let low : n < s.next = opened_before n (streams n) (is_open s n) s.next (requests h n) (closed_by before h n) keeps.keeps there in
       let (none, taken, whole) = keeps.keeps.going there in
@@ -236,11 +246,11 @@ module _ (before : State) (at n : ℕ) (s : State) (streams : Streams) (h k : Li
       (shut before n (streams n) s h e t [] InputEnded enters.step (turn_close n s e t enters.step InputEnded enters.event) low keeps.leads none (append-nil (requests h n) ∙ taken))
 
   -- the bytes of another session end
-  ended_other : (m : ℕ) → m ≢ n → Ended at s streams m k new after → KeepsAt before n (after n) new (h ++ k)
+  ended_other : (m : ℕ) → m ≢ n → Ended at s streams m made → KeepsAt before n (after n) new (h ++ k)
   ended_other m ne (e, t, one, enters, state, same) = single before n streams h k e t new after one state same (closes_other before at n (streams n) m ne s h InputEnded e t enters keeps)
 
   -- bytes of the session come
-  pieces_own : (bytes : List ℕ) → is_open s n ≡ true → Pieces at s streams n bytes k new after → KeepsAt before n (after n) new (h ++ k)
+  pieces_own : (bytes : List ℕ) → is_open s n ≡ true → Pieces at s streams n bytes made → KeepsAt before n (after n) new (h ++ k)
   pieces_own bytes there (messages, split, feeds, same) =
       let low : n < s.next = opened_before n (streams n) (is_open s n) s.next (requests h n) (closed_by before h n) keeps.keeps there in
       let (none, taken, whole) = keeps.keeps.going there in
@@ -249,33 +259,33 @@ module _ (before : State) (at n : ℕ) (s : State) (streams : Streams) (h k : Li
       (feeds_own before at n (streams n ++ bytes) s h messages (asked (streams n ++ bytes)).damaged k new there low keeps.leads none (ap (λ l. l ++ messages) taken ∙ sym split) refl feeds)
 
   -- bytes of another session come
-  pieces_other : (m : ℕ) (bytes : List ℕ) → m ≢ n → Pieces at s streams m bytes k new after → KeepsAt before n (after n) new (h ++ k)
+  pieces_other : (m : ℕ) (bytes : List ℕ) → m ≢ n → Pieces at s streams m bytes made → KeepsAt before n (after n) new (h ++ k)
   pieces_other m bytes ne (messages, split, feeds, same) =
       let then_is : after n ≡ streams n = ap (λ (f : Streams). f n) same ∙ ap (λ b. cond b (streams n ++ bytes) (streams n)) (ne_eqb n m (λ e. ne (sym e))) in
       subst (λ (l : List ℕ). KeepsAt before n l new (h ++ k)) (sym then_is) (feeds_other before at n (streams n) m ne s h messages (asked (streams m ++ bytes)).damaged k new keeps feeds)
 
   -- the bytes of a session end
-  expands_finish : (m : ℕ) → MatchBool (is_open s m) (Ended at s streams m k new after) (Stays s streams k new after) → KeepsAt before n (after n) new (h ++ k)
+  expands_finish : (m : ℕ) → MatchBool (is_open s m) (Ended at s streams m made) (Stays s streams made) → KeepsAt before n (after n) new (h ++ k)
   expands_finish m x = elim (cases_Bool (is_open s m)) [
     | inl there ↦
-        let y : Ended at s streams m k new after = MatchBool-at_true (Ended at s streams m k new after) (Stays s streams k new after) there x in
+        let y : Ended at s streams m made = MatchBool-at_true (Ended at s streams m made) (Stays s streams made) there x in
         elim (cases_eq m n) [
-          | inl is ↦ ended_own (ap (is_open s) (sym is) ∙ there) (subst (λ (v : ℕ). Ended at s streams v k new after) is y)
+          | inl is ↦ ended_own (ap (is_open s) (sym is) ∙ there) (subst (λ (v : ℕ). Ended at s streams v made) is y)
           | inr ne ↦ ended_other m ne y
         ]
-    | inr away ↦ nothing before n s streams h k new after (MatchBool-at_false (Ended at s streams m k new after) (Stays s streams k new after) away x) keeps
+    | inr away ↦ nothing before n s streams h k new after (MatchBool-at_false (Ended at s streams m made) (Stays s streams made) away x) keeps
   ]
 
   -- bytes of a session come
-  expands_feed : (m : ℕ) (bytes : List ℕ) → MatchBool (is_open s m) (Pieces at s streams m bytes k new after) (Stays s streams k new after) → KeepsAt before n (after n) new (h ++ k)
+  expands_feed : (m : ℕ) (bytes : List ℕ) → MatchBool (is_open s m) (Pieces at s streams m bytes made) (Stays s streams made) → KeepsAt before n (after n) new (h ++ k)
   expands_feed m bytes x = elim (cases_Bool (is_open s m)) [
     | inl there ↦
-        let y : Pieces at s streams m bytes k new after = MatchBool-at_true (Pieces at s streams m bytes k new after) (Stays s streams k new after) there x in
+        let y : Pieces at s streams m bytes made = MatchBool-at_true (Pieces at s streams m bytes made) (Stays s streams made) there x in
         elim (cases_eq m n) [
-          | inl is ↦ pieces_own bytes (ap (is_open s) (sym is) ∙ there) (subst (λ (v : ℕ). Pieces at s streams v bytes k new after) is y)
+          | inl is ↦ pieces_own bytes (ap (is_open s) (sym is) ∙ there) (subst (λ (v : ℕ). Pieces at s streams v bytes made) is y)
           | inr ne ↦ pieces_other m bytes ne y
         ]
-    | inr away ↦ nothing before n s streams h k new after (MatchBool-at_false (Pieces at s streams m bytes k new after) (Stays s streams k new after) away x) keeps
+    | inr away ↦ nothing before n s streams h k new after (MatchBool-at_false (Pieces at s streams m bytes made) (Stays s streams made) away x) keeps
   ]
 
 -- a stream event keeps it

@@ -1,23 +1,22 @@
 -- Monitors receive a change before the reply of the transaction that made it.
-use Rattle.std.proofs.Common.{◌≡◌, ◌≢◌, ℕ, ◌-◌, List, [], ◌++◌, Bool, true, false, cond, eqb, length, Option, Some, None, ◌⊎◌, inl, inr, refl, subst}
+use Rattle.std.proofs.Common.{◌≡◌, ◌≢◌, ℕ, ◌-◌, List, [], Bool, true, false, cond, eqb, length, Option, Some, None, inl, inr, refl, subst}
 use Rattle.std.specs.Prelude.{is_some}
 use Rattle.std.proofs.lemmas.Option.{same_Some}
 use Rattle.serde_json.specs.Data.{Data, Items}
 use Rattle.ov_specs.specs.locks.Queues.{owns}
-use Rattle.ov_specs.specs.machine.Machine.{State, Outcome, Committed, Exhausted, Failed, NoMemory, Outstanding, Stepped, Transact, works, does, draws_for, arrived, attempt, tries_again, is_kept, commits, sends_at_once, results_to, updates_sent, waits_on}
+use Rattle.ov_specs.specs.machine.Machine.{State, Outcome, Committed, Exhausted, Failed, NoMemory, Outstanding, Stepped, Transact, works, does, draws_for, arrived, attempt, tries_again, is_kept, commits, sends_at_once, results_to, waits_on}
 use Rattle.ov_specs.specs.operations.Transaction.{TransactionOutcome, Completes, Waits, transaction, exhausted_results, failed_results}
 use Rattle.ov_specs.specs.rows.Database.{Database, same_database}
 use Rattle.ov_specs.specs.values.Uuid.{Uuid}
+use Rattle.ov_laws.specs.Updating.{SendsUpdatesFirst, SendsAtMostReply}
 use Rattle.ov_specs.proofs.laws.Works.{keeping, sealing, blocked, when_is}
 
 module _ (s : State) (o : Outstanding) where
-  -- the updates of the change, and then the reply
   abbrev pub TellsFirst : Stepped → Type 0
-  TellsFirst t = (results : Items) × (t.sent ≡ updates_sent s.database t.state.database s.sessions ++ results_to o.session o.id results)
+  TellsFirst t = SendsUpdatesFirst s o.session o.id t
 
-  -- the reply alone, or nothing
   abbrev pub TellsNothing : Stepped → Type 0
-  TellsNothing t = (t.sent ≡ []) ⊎ ((results : Items) × (t.sent ≡ results_to o.session o.id results))
+  TellsNothing t = SendsAtMostReply o.session o.id t
 
   -- ---- if it is kept
 

@@ -15,7 +15,10 @@ settling_attempts s number attempts = count_of (settle s number attempts) (λ p.
 
 -- how many attempts follow the work on a message: if that is kept, the waiting transactions are settled
 abbrev pub attempts_after : State → Choice → ℕ → Message → ℕ
-attempts_after s c session message = count_of (takes s c session message) (λ t. if is_kept (listed 1 c.outcomes).outcome then settling_attempts t.stepped.state 2 t.others else 0)
+attempts_after s c session message = count_of (takes s c session message)
+    (λ t. if is_kept (listed 1 c.outcomes).outcome
+    then settling_attempts t.stepped.state 2 t.others
+    else 0)
 
 -- how many attempts the work on a message makes, if no allocation fails before its attempt
 abbrev pub own_attempts : Work → ℕ
@@ -24,7 +27,8 @@ own_attempts work = if is_transaction work then 1 else 0
 -- how many attempts an event makes: one of its own for a message that asks for a transaction, and those that settle
 abbrev pub attempts_of : State → Choice → Event → ℕ
 attempts_of s c Open = 0
-attempts_of s c (Take session message) = own_attempts (work_of s session message) + attempts_after s c session message
+attempts_of s c (Take session message) =
+    own_attempts (work_of s session message) + attempts_after s c session message
 attempts_of s c (Close session cause) = 0
 attempts_of s c Tick = settling_attempts s 1 c.outcomes
 

@@ -4,6 +4,9 @@ use Rattle.ov_specs.specs.machine.Machine.{State, Outcome, NoMemory, Outstanding
 
 -- The database is as before. Unless an allocation failed, nothing is sent, and all that changes is that the transaction waits,
 -- as the last one, with the timeout of the wait that blocks it.
-pub record LeavesBlocked (s : State) (waiting : Outstanding) (timeout : Option ℕ) (outcome : Option Outcome) (stepped : Stepped) : Type 0 where
+pub record LeavesBlocked
+    (s : State) (waiting : Outstanding) (timeout : Option ℕ) (outcome : Option Outcome)
+    (stepped : Stepped) : Type 0 where
   pub database : stepped.state.database ≡ s.database
-  pub waits : outcome ≢ Some NoMemory → stepped ≡ record { state = waits_on s waiting timeout; sent = [] }
+  pub waits : outcome ≢ Some NoMemory
+      → stepped ≡ record { state = waits_on s waiting timeout; sent = [] }

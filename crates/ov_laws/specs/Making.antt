@@ -10,13 +10,30 @@ use Rattle.ov_specs.specs.schema.SchemaTypes.{Schema}
 use Rattle.ov_specs.specs.values.Uuid.{Uuid}
 use Rattle.ov_specs.specs.wire.Message.{Message}
 use Rattle.ov_laws.specs.Databases.{at_moment_of, commits_in}
-use Rattle.ov_laws.specs.Tries.{EventTries}
+use Rattle.ov_laws.specs.Tries.{Trial, EventTries}
 
--- At this moment an entry of the history takes a message of the session that asks for these operations, for a reply with this
--- id, and draws these identifiers for them.
+-- A transaction as it arrives: the session that asks for it, the id of its reply, the identifiers drawn for it, its operations,
+-- and the moment.
+pub record Arrival : Type 0 where
+  pub session : ℕ
+  pub id : Data
+  pub draws : List Uuid
+  pub operations : Items
+  pub moment : ℕ
+
+-- how a transaction that is tried arrived
+abbrev pub arrival_of : Outstanding → Arrival
+arrival_of o = record {
+  session = o.session;
+  id = o.id;
+  draws = o.draws;
+  operations = o.operations;
+  moment = o.arrival;
+}
+
+-- An entry of the history takes a message that asks for the transaction, at its moment, and draws the identifiers for it.
 pub record TakesTransaction
-    (first : State) (history : List Entry)
-    (session : ℕ) (id : Data) (draws : List Uuid) (operations : Items) (moment : ℕ) : Type 0 where
+    (first : State) (history : List Entry) (arrival : Arrival) : Type 0 where
   pub earlier : List Entry
   pub entry : Entry
   pub later : List Entry
@@ -24,19 +41,21 @@ pub record TakesTransaction
   pub before : Stepped
   pub leads : run first earlier ≡ Some before
   pub message : Message
-  pub takes : entry.event ≡ Take session message
-  pub asks : work_of (at_moment_of entry before.state) session message ≡ Transact id operations
-  pub drawn : entry.choice.draws ≡ draws
-  pub arrives : entry.choice.moment ≡ moment
+  pub takes : entry.event ≡ Take arrival.session message
+  pub asks : work_of (at_moment_of entry before.state) arrival.session message
+      ≡ Transact arrival.id arrival.operations
+  pub drawn : entry.choice.draws ≡ arrival.draws
+  pub arrives : entry.choice.moment ≡ arrival.moment
 
 -- One of these entries took the transaction.
 abbrev pub IsTaken : State → List Entry → Outstanding → Type 0
-IsTaken first history o = TakesTransaction first history o.session o.id o.draws o.operations o.arrival
+IsTaken first history o = TakesTransaction first history (arrival_of o)
 
 -- What comes of the transaction in this state of the machine, at its age and with the locks that its session owns there, if the
 -- schema is this one (RFC 7047, 4.1.3, 5.2.6).
 abbrev pub tried_in : Schema → State → Outstanding → TransactionOutcome
-tried_in schema s o = transaction schema s.database (owns s.queues o.session) o.draws (s.moment - o.arrival) o.operations
+tried_in schema s o = transaction schema s.database (owns s.queues o.session)
+    o.draws (s.moment - o.arrival) o.operations
 
 -- the attempts of these whose changes the store kept
 abbrev pub commits_of : List Attempt → List Attempt
@@ -44,7 +63,9 @@ commits_of attempts = filter (λ a. is_kept (Some a.outcome)) attempts
 
 -- An attempt of the history makes `after` of `before`, after n attempts that were kept, and the store answers it with this
 -- outcome.
-pub record Makes (first : State) (history : List Entry) (outcome : Outcome) (n : ℕ) (before after : Database) : Type 0 where
+pub record Makes
+    (first : State) (history : List Entry) (outcome : Outcome) (n : ℕ)
+    (before after : Database) : Type 0 where
   -- the entry, and where it stands
   pub earlier : List Entry
   pub entry : Entry
@@ -52,50 +73,53 @@ pub record Makes (first : State) (history : List Entry) (outcome : Outcome) (n :
   pub stands : history ≡ earlier ++ entry ∷ later
   pub mid : Stepped
   pub leads : run first earlier ≡ Some mid
-  -- the attempt, and where it is listed: n were kept before it
+  -- The attempt, the transaction that it tries, which this entry or an earlier one took, and the state of the machine then. The
+  -- attempt is listed, and n were kept before it.
+  pub trial : Trial
+  pub tries : EventTries (at_moment_of entry mid.state) entry.choice entry.event trial
+  pub taken : IsTaken first (earlier ++ entry ∷ []) trial.tried
   pub made : List Attempt
-  pub number : ℕ
+  pub listed : entry.choice.outcomes ≡ made ++ trial.left
   pub others : List Attempt
-  pub listed : entry.choice.outcomes ≡ made ++ record { number = number; outcome = outcome } ∷ others
+  pub answered : trial.left ≡ record { number = trial.number; outcome = outcome } ∷ others
   pub counted : length (commits_in earlier) + length (commits_of made) ≡ n
-  -- the transaction that it tries, which this entry or an earlier one took, and the state of the machine then
-  pub state : State
-  pub tried : Outstanding
-  pub tries : EventTries (at_moment_of entry mid.state) entry.choice entry.event number
-      (record { number = number; outcome = outcome } ∷ others) state tried
-  pub taken : IsTaken first (earlier ++ entry ∷ []) tried
   -- what comes of it: no error, and another database
-  pub database : state.database ≡ before
+  pub database : trial.state.database ≡ before
   pub results : Items
-  pub completes : tried_in first.schema state tried ≡ Completes results after
+  pub completes : tried_in first.schema trial.state trial.tried ≡ Completes results after
   pub succeeds : has_error results ≡ false
   pub changes : same_database before after ≡ false
 
--- The results reply to a transaction of this session and id, which an attempt of the entry tries. If n attempts of the entry were
--- kept before it, it is tried on database n of these, counted from 0; and it leaves that as it was, or makes the next one of it.
+-- A reply to a transaction: the session that it is for, its id, and its results.
+pub record Reply : Type 0 where
+  pub session : ℕ
+  pub id : Data
+  pub results : Items
+
+-- The reply has the results of a transaction of its session and id, which an attempt of the entry tries; `s` is the state before
+-- the entry. If n attempts of the entry were kept before it, it is tried on database n of these, counted from 0; and it leaves
+-- that as it was, or makes the next one of it.
 pub record RepliesTo
     (first : State) (earlier : List Entry) (s : State) (entry : Entry) (databases : List Database)
-    (session : ℕ) (id : Data) (results : Items) : Type 0 where
-  -- the attempt, and what is listed before it, and from it on
+    (reply : Reply) : Type 0 where
+  -- the attempt, the transaction that it tries, which this entry or an earlier one took, and the state of the machine then
+  pub trial : Trial
+  pub tries : EventTries (at_moment_of entry s) entry.choice entry.event trial
+  pub taken : IsTaken first (earlier ++ entry ∷ []) trial.tried
+  pub of_session : trial.tried.session ≡ reply.session
+  pub of_id : trial.tried.id ≡ reply.id
+  -- what is listed before it, and from it on
   pub made : List Attempt
-  pub number : ℕ
-  pub left : List Attempt
-  pub listed : entry.choice.outcomes ≡ made ++ left
-  -- the transaction that it tries, which this entry or an earlier one took, and the state of the machine then
-  pub state : State
-  pub tried : Outstanding
-  pub tries : EventTries (at_moment_of entry s) entry.choice entry.event number left state tried
-  pub taken : IsTaken first (earlier ++ entry ∷ []) tried
-  pub of_session : tried.session ≡ session
-  pub of_id : tried.id ≡ id
+  pub listed : entry.choice.outcomes ≡ made ++ trial.left
   -- what comes of it, and which database it is tried on
   pub after : Database
-  pub completes : tried_in first.schema state tried ≡ Completes results after
+  pub completes : tried_in first.schema trial.state trial.tried ≡ Completes reply.results after
   pub former : List Database
   pub next : List Database
   pub counted : length former ≡ length (commits_of made)
-  pub stands : databases ≡ former ++ state.database ∷ next
-  pub kept : (same_database state.database after ≡ true) ⊎ ((more : List Database) × (next ≡ after ∷ more))
+  pub stands : databases ≡ former ++ trial.state.database ∷ next
+  pub kept : (same_database trial.state.database after ≡ true)
+      ⊎ ((more : List Database) × (next ≡ after ∷ more))
 
 -- the work is to try a transaction
 abbrev pub is_transaction : Work → Bool

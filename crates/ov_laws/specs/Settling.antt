@@ -7,21 +7,25 @@ use Rattle.ov_specs.specs.machine.Machine.{State, Attempt, Outstanding, Stepped,
 -- way is not tried.
 pub data Settles : State → List Outstanding → ℕ → List Attempt → Passed → Type 0 where
   -- None is left to try: settling ends.
-  ends : (s : State) (number : ℕ) (attempts : List Attempt) → Settles s [] number attempts (passed s number attempts false)
+  ends : (s : State) (number : ℕ) (attempts : List Attempt)
+      → Settles s [] number attempts (passed s number attempts false)
   -- The next one is tried, and the database stays as it was, since it is answered or blocked: on to the one after it.
-  goes_on : (s : State) (o : Outstanding) (waiting : List Outstanding) (number : ℕ) (attempts : List Attempt)
-      (t : Stepped) (p : Passed)
+  goes_on : (s : State) (o : Outstanding) (waiting : List Outstanding) (number : ℕ)
+      (attempts : List Attempt) (t : Stepped) (p : Passed)
       → tries_again s o (listed number attempts).outcome ≡ Some t → t.state.database ≡ s.database
-      → Settles t.state (still_waiting t.state waiting) (number + 1) (listed number attempts).others p
+      → Settles t.state (still_waiting t.state waiting) (number + 1)
+      (listed number attempts).others p
       → Settles s (o ∷ waiting) number attempts (passes_after t.sent p)
   -- The next one is tried, and its commit changed the database: all that still wait are tried, from the first on.
-  begins_again : (s : State) (o : Outstanding) (waiting : List Outstanding) (number : ℕ) (attempts : List Attempt)
-      (t : Stepped) (p : Passed)
+  begins_again : (s : State) (o : Outstanding) (waiting : List Outstanding) (number : ℕ)
+      (attempts : List Attempt) (t : Stepped) (p : Passed)
       → tries_again s o (listed number attempts).outcome ≡ Some t → t.state.database ≢ s.database
-      → Settles (record t.state { outstanding = [] }) (still_waiting t.state (t.state.outstanding ++ waiting)) (number + 1)
+      → Settles (record t.state { outstanding = [] })
+      (still_waiting t.state (t.state.outstanding ++ waiting)) (number + 1)
       (listed number attempts).others p
       → Settles s (o ∷ waiting) number attempts (passes_after t.sent p)
 
 -- what settling comes to from a state, beginning with the attempt of this number: all that wait are tried
 abbrev pub IsSettling : State → ℕ → List Attempt → Passed → Type 0
-IsSettling s number attempts p = Settles (record s { outstanding = [] }) (still_waiting s s.outstanding) number attempts p
+IsSettling s number attempts p =
+    Settles (record s { outstanding = [] }) (still_waiting s s.outstanding) number attempts p
