@@ -60,11 +60,19 @@ impl<K: Keeper> Model for Db<K> {
 
     ghost coded = { Prim.hlevel (codes, schema_code, database_code, K.code) };
 
-    ghost view = { λ d. record { schema = d.schema; committed = d.resident.rows; sealed = option_map (λ delta. applied delta d.resident.rows) d.failed; keeper = d.keeper } };
+    ghost view = { λ d. record {
+      schema = d.schema;
+      committed = d.resident.rows;
+      sealed = option_map (λ delta. applied delta d.resident.rows) d.failed;
+      keeper = d.keeper;
+    } };
 
     ghost invariant = { λ d. (K.Keeper.format d.keeper ≡ 2)
-        × (K.Keeper.is_honest d.keeper → MayHold (K.Keeper.leaves d.keeper) d.schema d.resident.rows (option_map (λ delta. applied delta d.resident.rows) d.failed))
-        × AreKept d.schema d.resident.rows (option_map (λ delta. applied delta d.resident.rows) d.failed)
+        × (K.Keeper.is_honest d.keeper
+        → MayHold (K.Keeper.leaves d.keeper) d.schema d.resident.rows
+        (option_map (λ delta. applied delta d.resident.rows) d.failed))
+        × AreKept d.schema d.resident.rows
+        (option_map (λ delta. applied delta d.resident.rows) d.failed)
         × IsBeside d.schema d.resident.rows d.resident };
 }
 

@@ -51,7 +51,9 @@ impl<'a> Model for NamedRows<'a> {
 
     ghost view = { λ n. record { ids = n.ids.items; operations = n.operations.now } };
 
-    ghost invariant = { λ n. ArePlaces n.places n.operations.now × ((place : ℕ) → unwrap_or (slice_get n.counts.items place) n.inserts ≡ inserts_before place n.operations.now) };
+    ghost invariant = { λ n. ArePlaces n.places n.operations.now
+        × ((place : ℕ) → unwrap_or (slice_get n.counts.items place) n.inserts
+        ≡ inserts_before place n.operations.now) };
 }
 
 impl<'a> NamedRows<'a> {

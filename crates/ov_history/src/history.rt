@@ -29,7 +29,8 @@ impl Model for History {
 
     ghost view = { λ h. h.entries.items };
 
-    ghost invariant = { λ h. (deque_len h.entries ≤ most_entries) × (most_entries ≤ deque_capacity h.entries) };
+    ghost invariant = { λ h. (deque_len h.entries ≤ most_entries)
+        × (most_entries ≤ deque_capacity h.entries) };
 }
 
 impl History {

@@ -48,7 +48,9 @@ impl Model for LockTable {
 
     ghost view = { λ t. (t.queues, t.freed.0) };
 
-    ghost invariant = { λ t. DoQueuesAscend t.queues × ((session : ℕ) → names_in session t.held ≡ names_of session t.queues) × (t.freed.1 ≡ requests_in t.held) };
+    ghost invariant = { λ t. DoQueuesAscend t.queues
+        × ((session : ℕ) → names_in session t.held ≡ names_of session t.queues)
+        × (t.freed.1 ≡ requests_in t.held) };
 }
 
 impl LockTable {

@@ -36,7 +36,9 @@ impl<L: Ledger> Model for OrderBook<L> {
 
     ghost view = { λ b. record { waiting = b.waiting.items; taken = b.taken; begun = b.begun } };
 
-    ghost invariant = { λ b. (b.noted ≡ b.taken + length b.waiting.items) × (b.noted ≡ b.ledger.total) × (note_limit ≤ deque_capacity b.waiting) };
+    ghost invariant = { λ b. (b.noted ≡ b.taken + length b.waiting.items)
+        × (b.noted ≡ b.ledger.total)
+        × (note_limit ≤ deque_capacity b.waiting) };
 }
 
 impl<L: Ledger> OrderBook<L> {

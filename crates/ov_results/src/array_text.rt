@@ -30,7 +30,8 @@ impl Model for ArrayText {
 
     ghost view = { λ a. a.trace.items };
 
-    ghost invariant = { λ a. (a.text.items ≡ joined false a.trace.items) × (a.is_empty ≡ has_none a.trace.items) };
+    ghost invariant = { λ a. (a.text.items ≡ joined false a.trace.items)
+        × (a.is_empty ≡ has_none a.trace.items) };
 }
 
 /// Appends one more item of an array: a comma, except before the first, and the item.

@@ -29,7 +29,8 @@ impl Model for Columns {
 
     ghost view = { λ c. columns_at c.names c.values.items };
 
-    ghost invariant = { λ c. T (is_sorted name_cmp (zip c.names c.values.items)) × (length c.values.items ≡ length c.names) };
+    ghost invariant = { λ c. T (is_sorted name_cmp (zip c.names c.values.items))
+        × (length c.values.items ≡ length c.names) };
 }
 
 impl Drop for Columns {

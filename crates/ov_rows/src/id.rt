@@ -71,7 +71,8 @@ impl PartialOrd for RowId {
 
     ghost partial_cmp = { λ a b. Some (id_cmp a b) };
 
-    ghost laws = { partial_order_from_agreeing_total id_cmp nat_list_cmp_total (λ a b. refl) (λ a b. refl) };
+    ghost laws = { partial_order_from_agreeing_total id_cmp nat_list_cmp_total
+        (λ a b. refl) (λ a b. refl) };
 
     fn partial_cmp(&self, other: &RowId) -> Option<Ordering> {
         Some(self.cmp(other))

@@ -88,7 +88,8 @@ impl PartialOrd for RowKey {
 
     ghost partial_cmp = { λ a b. Some (line_cmp a b) };
 
-    ghost laws = { partial_order_from_agreeing_total line_cmp key_total (λ a b. refl) (λ a b. refl) };
+    ghost laws = { partial_order_from_agreeing_total line_cmp key_total
+        (λ a b. refl) (λ a b. refl) };
 
     fn partial_cmp(&self, other: &RowKey) -> Option<Ordering> {
         Some(self.cmp(other))

@@ -54,7 +54,15 @@ impl Model for BaseType {
 
     ghost coded = { base_type_code };
 
-    ghost view = { λ b. record { kind = kind_view b.kind; choices = option_map set_in b.choices; least = b.least; greatest = b.greatest; shortest = b.shortest; longest = b.longest; refers = b.refers } };
+    ghost view = { λ b. record {
+      kind = kind_view b.kind;
+      choices = option_map set_in b.choices;
+      least = b.least;
+      greatest = b.greatest;
+      shortest = b.shortest;
+      longest = b.longest;
+      refers = b.refers;
+    } };
 }
 
 impl Reference {

@@ -28,7 +28,11 @@ impl Model for Column {
 
     ghost coded = { column_code };
 
-    ghost view = { λ c. record { type_of = c.type_of; is_ephemeral = c.is_ephemeral; is_mutable = c.is_mutable } };
+    ghost view = { λ c. record {
+      type_of = c.type_of;
+      is_ephemeral = c.is_ephemeral;
+      is_mutable = c.is_mutable;
+    } };
 }
 
 impl Column {

@@ -38,9 +38,15 @@ impl Model for Table {
 
     ghost coded = { table_code };
 
-    ghost view = { λ t. record { columns = from_entries t.columns.items; max_rows = t.max_rows; is_root = t.is_root; indexes = indexes_in t.indexes.items } };
+    ghost view = { λ t. record {
+      columns = from_entries t.columns.items;
+      max_rows = t.max_rows;
+      is_root = t.is_root;
+      indexes = indexes_in t.indexes.items;
+    } };
 
-    ghost invariant = { λ t. T (is_sorted types.name_cmp t.columns.items) × (t.row_names ≡ without_own (map (λ c. c.0) t.columns.items)) };
+    ghost invariant = { λ t. T (is_sorted types.name_cmp t.columns.items)
+        × (t.row_names ≡ without_own (map (λ c. c.0) t.columns.items)) };
 }
 
 impl Drop for Table {

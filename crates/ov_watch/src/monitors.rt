@@ -43,7 +43,8 @@ impl Model for Monitors {
 
     ghost view = { λ m. map (λ e. e.1) m.monitors.entries };
 
-    ghost invariant = { λ m. AllByRecursion (λ e. string_bytes e.0 ≡ frame e.1.id) m.monitors.entries };
+    ghost invariant = { λ m.
+        AllByRecursion (λ e. string_bytes e.0 ≡ frame e.1.id) m.monitors.entries };
 }
 
 impl Monitors {

@@ -32,7 +32,13 @@ impl Model for MonitoredTable {
 
     ghost coded = { monitored_table_code };
 
-    ghost view = { λ t. record { table = t.table; initial = option_map (λ v. v.items) t.initial; insert = option_map (λ v. v.items) t.inserted; delete = option_map (λ v. v.items) t.deleted; modify = option_map (λ v. v.items) t.modified } };
+    ghost view = { λ t. record {
+      table = t.table;
+      initial = option_map (λ v. v.items) t.initial;
+      insert = option_map (λ v. v.items) t.inserted;
+      delete = option_map (λ v. v.items) t.deleted;
+      modify = option_map (λ v. v.items) t.modified;
+    } };
 }
 
 impl MonitoredTable {
