@@ -40,7 +40,7 @@ abbrev mutual
   AreWhole (item d items) = IsWhole d × AreWhole items
 
 mutual
-  reads-outline : (d : Data) → IsWhole d → of_json (outline d) ≡ Some d
+  pub reads-outline : (d : Data) → IsWhole d → of_json (outline d) ≡ Some d
   reads-outline null h = refl
   reads-outline (boolean b) h = refl
   reads-outline (number n) h = ap (option_map number) h
@@ -54,7 +54,7 @@ mutual
       ap (option_and_then (λ e. option_map (item e) (of_items (items_outline items)))) (reads-outline d h.0) ∙ ap (option_map (item d)) (reads-items items h.1)
 
 mutual
-  depth-outline : (d : Data) → json_tree.depth (outline d) ≡ depth d
+  pub depth-outline : (d : Data) → json_tree.depth (outline d) ≡ depth d
   depth-outline null = refl
   depth-outline (boolean b) = refl
   depth-outline (number n) = refl
@@ -154,7 +154,7 @@ set-whole kind [] h = (tt, (tt, tt))
 set-whole kind (a ∷ []) h = atom-whole kind a (and_parts (is_atom_of kind a) true h).0
 set-whole kind (a ∷ b ∷ atoms) h = (tt, (each-whole atom_tree (is_atom_of kind) (atom-whole kind) (a ∷ b ∷ atoms) h, tt))
 
-datum-whole : (kinds : Kinds) (d : Datum) → is_of kinds d ≡ true → IsWhole (tree d)
+pub datum-whole : (kinds : Kinds) (d : Datum) → is_of kinds d ≡ true → IsWhole (tree d)
 datum-whole (Single kind) (Atoms atoms) h = set-whole kind (keys atoms) h
 datum-whole (Pair key value) (Pairs pairs) h = (tt, (each-whole pair_tree (is_pair_of key value) (pair-whole key value) (entries pairs) h, tt))
 datum-whole (Single kind) (Pairs pairs) h = absurd (true≢false (sym h))
