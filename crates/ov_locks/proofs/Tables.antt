@@ -123,22 +123,29 @@ added-is name session held new adds =
 abbrev pub Freeing : Type 0
 Freeing = List (ℕ × List ℕ) × ℕ
 
--- unlocking the remaining locks makes of these queues what unlocking all makes of the first ones, and there are places for it
-abbrev pub IsLeft : ℕ → List (List ℕ) → Queues → Freeing → List (List ℕ) → Queues → Freeing → Type 0
-IsLeft session rest queues now all first before =
-    (unlock_all session rest queues ≡ unlock_all session all first)
-    × (now.0 ++ told_all (freed_all session rest queues) ≡ before.0 ++ told_all (freed_all session all first))
-    × (now.1 + length all ≡ before.1 + length rest)
-    × (length rest ≤ now.1)
+-- the locks that a session has still to unlock, with the queues, the new owners and the places of that moment
+pub record Unlocking : Type 0 where
+  pub names : List (List ℕ)
+  pub queues : Queues
+  pub freeing : Freeing
+
+-- unlocking the remaining locks makes of the queues what unlocking all makes of the first ones, and there are places for it
+abbrev pub IsLeft : ℕ → Unlocking → Unlocking → Type 0
+IsLeft session first now =
+    (unlock_all session now.names now.queues ≡ unlock_all session first.names first.queues)
+    × (now.freeing.0 ++ told_all (freed_all session now.names now.queues) ≡ first.freeing.0 ++ told_all (freed_all session first.names first.queues))
+    × (now.freeing.1 + length first.names ≡ first.freeing.1 + length now.names)
+    × (length now.names ≤ now.freeing.1)
 
 told-next : (name : List ℕ) (next : Option ℕ) (others : List (ℕ × List ℕ)) → told_all (freed_before next name others) ≡ option_to_list (told name next) ++ told_all others
 told-next name None others = refl
 told-next name (Some session) others = refl
 
-pub left-next : (session : ℕ) (name : List ℕ) (rest : List (List ℕ)) (queues after : Queues) (now then : Freeing) (all : List (List ℕ)) (first : Queues) (before : Freeing)
-    → IsLeft session (name ∷ rest) queues now all first before → after ≡ unlock name session queues → then.0 ≡ now.0 ++ option_to_list (told name (next_owner name session queues)) → then.1 + 1 ≡ now.1
-    → IsLeft session rest after then all first before
-left-next session name rest queues after now then all first before left is told_is places = (
+pub left-next : (session : ℕ) (first : Unlocking) (name : List ℕ) (rest : List (List ℕ)) (queues after : Queues) (now then : Freeing)
+    → IsLeft session first (record { names = name ∷ rest; queues = queues; freeing = now })
+    → after ≡ unlock name session queues → then.0 ≡ now.0 ++ option_to_list (told name (next_owner name session queues)) → then.1 + 1 ≡ now.1
+    → IsLeft session first (record { names = rest; queues = after; freeing = then })
+left-next session first name rest queues after now then left is told_is places = (
   ap (unlock_all session rest) is ∙ left.0,
   (λ i. told_is i ++ told_all (freed_all session rest (is i)))
       ∙ append_assoc now.0 (option_to_list (told name (next_owner name session queues))) (told_all (freed_all session rest (unlock name session queues)))
