@@ -108,17 +108,19 @@ of_number test (x ∷ xs) (suc number) index at is = or_right (test x) (list_any
 
 -- ---- two rows at one key
 
+-- the row with this identifier is at the key
+abbrev pub RowAt : Schema → Database → IndexKey → Uuid → Type 0
+RowAt schema rows key id = (row : Row) × (get rows (key.table, id) ≡ Some row) × (is_at schema ((key.table, id), row) key ≡ true)
+
 -- two rows of different identifiers are at a key
-pub record AreShared (schema : Schema) (rows : Database) (key : IndexKey) (a b : Uuid) (r s : Row) : Type 0 where
+pub record AreShared (schema : Schema) (rows : Database) (key : IndexKey) (a b : Uuid) : Type 0 where
   pub differ : bytes_eq a b ≡ false
-  pub at_a : get rows (key.table, a) ≡ Some r
-  pub at_b : get rows (key.table, b) ≡ Some s
-  pub is_a : is_at schema ((key.table, a), r) key ≡ true
-  pub is_b : is_at schema ((key.table, b), s) key ≡ true
+  pub at_a : RowAt schema rows key a
+  pub at_b : RowAt schema rows key b
 
 -- there are such rows
 abbrev pub IsShared : Schema → Database → Type 0
-IsShared schema rows = (key : IndexKey) × (a : Uuid) × (b : Uuid) × (r : Row) × (s : Row) × AreShared schema rows key a b r s
+IsShared schema rows = (key : IndexKey) × (a : Uuid) × (b : Uuid) × AreShared schema rows key a b
 
 module _ (schema : Schema) (rows : Database) where
   -- the keys of a row, by the table and the index
@@ -166,14 +168,10 @@ module _ (schema : Schema) (rows : Database) where
             key,
             a.1,
             b.1,
-            r,
-            s,
             record {
               differ = ids_differ name a b of_a of_b differ;
-              at_a = ap (λ n. get rows (n, a.1)) (sym of_a) ∙ at_a;
-              at_b = ap (λ n. get rows (n, b.1)) (sym of_b) ∙ at_b;
-              is_a = is_place (name, a.1) r.columns key table index in_schema in_table refl;
-              is_b = is_place (name, b.1) s.columns key table index in_schema in_table same;
+              at_a = (r, ap (λ n. get rows (n, a.1)) (sym of_a) ∙ at_a, is_place (name, a.1) r.columns key table index in_schema in_table refl);
+              at_b = (s, ap (λ n. get rows (n, b.1)) (sym of_b) ∙ at_b, is_place (name, b.1) s.columns key table index in_schema in_table same);
             },
           )
 
@@ -183,20 +181,26 @@ module _ (schema : Schema) (rows : Database) where
           of_two name table in_schema one.0 one.1 one.2 (two_alike rows name one.1 one.3)
 
   -- and the other way round, if they are rows of the schema
-  pub shared_alike : (key : IndexKey) (a b : Uuid) (r s : Row) → SuitsRow schema (key.table, a) r → SuitsRow schema (key.table, b) s → AreShared schema rows key a b r s → are_any_alike schema rows ≡ true
-  shared_alike key a b r s suits_r suits_s shared =
+  pub shared_alike : (key : IndexKey) (a b : Uuid) (shared : AreShared schema rows key a b) → SuitsRow schema (key.table, a) shared.at_a.0 → SuitsRow schema (key.table, b) shared.at_b.0 → are_any_alike schema rows ≡ true
+  shared_alike key a b shared suits_a suits_b =
       entry_is_any name_cmp name_cmp_total name_exact (has_duplicates rows) schema.tables name table place_a.2
       (of_number (λ i. has_two_alike i (rows_of name rows)) table.indexes key.number index place_a.3
-      (are_two_alike rows name index ((name, a), r, (name, b), s, refl, shared.at_a, refl, shared.at_b, lines_differ name a b shared.differ, values_same r.columns s.columns both index same)))
+      (are_two_alike rows name index ((name, a), r, (name, b), s, refl, shared.at_a.1, refl, shared.at_b.1, lines_differ name a b shared.differ, values_same r.columns s.columns both index same)))
     where
       name : List ℕ
       name = key.table
 
+      r : Row
+      r = shared.at_a.0
+
+      s : Row
+      s = shared.at_b.0
+
       place_a : (table : Table) × (index : List (List ℕ)) × (get schema.tables name ≡ Some table) × (slice_get table.indexes key.number ≡ Some index) × (same_index_key (key_at name key.number index r.columns) key ≡ true)
-      place_a = place_is (name, a) r.columns key shared.is_a
+      place_a = place_is (name, a) r.columns key shared.at_a.2
 
       place_b : (table : Table) × (index : List (List ℕ)) × (get schema.tables name ≡ Some table) × (slice_get table.indexes key.number ≡ Some index) × (same_index_key (key_at name key.number index s.columns) key ≡ true)
-      place_b = place_is (name, b) s.columns key shared.is_b
+      place_b = place_is (name, b) s.columns key shared.at_b.2
 
       table : Table
       table = place_a.0
@@ -219,4 +223,4 @@ module _ (schema : Schema) (rows : Database) where
       has row id suits = subst (λ t. SuitsTable t row.columns) (same_Some suits.table table (sym suits.named ∙ place_a.2)) suits.columns
 
       both : (n : List ℕ) → is_some (get r.columns n) ≡ is_some (get s.columns n)
-      both n = present table r.columns (has r a suits_r) n ∙ sym (present table s.columns (has s b suits_s) n)
+      both n = present table r.columns (has r a suits_a) n ∙ sym (present table s.columns (has s b suits_b) n)

@@ -25,7 +25,7 @@ use Rattle.ov_index.specs.Collecting.{has_entry, entries_of_row, with_entry, wit
 use Rattle.ov_index.specs.IndexKeys.{IndexKey, IndexEntry, index_cmp}
 use Rattle.ov_index.specs.Indexing.{IdSet, Indexes, ids_at, is_indexed, is_at, is_in, has_none, AreIndexesOf}
 use Rattle.ov_index.specs.KeyOrder.{index_total, index_exact}
-use Rattle.ov_index.proofs.Duplicates.{IsShared, alike_shared, shared_alike}
+use Rattle.ov_index.proofs.Duplicates.{RowAt, IsShared, alike_shared, shared_alike}
 use Rattle.ov_index.proofs.Kept.{or_false, or_three, indexed-with_entries, none_indexed}
 use Rattle.ov_index.proofs.MapEntries.{contradicts, same_truth, some_and_is, any_entry_is, entry_is_any}
 use Rattle.ov_index.proofs.Placed.{Changes, makes, made_is}
@@ -34,15 +34,11 @@ use Rattle.ov_index.proofs.TwoIds.{two_ids, are_two, one_id, any_id_is, id_is_an
 
 -- ---- rows that are kept at a key
 
--- the row that is kept there
-abbrev pub RowAt : Schema → Database → IndexKey → Uuid → Type 0
-RowAt schema rows key id = (row : Row) × (get rows (key.table, id) ≡ Some row) × (is_at schema ((key.table, id), row) key ≡ true)
-
 row_at : (schema : Schema) (rows : Database) (key : IndexKey) (id : Uuid) → is_in schema rows key id ≡ true → RowAt schema rows key id
 row_at schema rows key id is = some_and_is (λ (row : Row). is_at schema ((key.table, id), row) key) (get rows (key.table, id)) is
 
-at_row : (schema : Schema) (rows : Database) (key : IndexKey) (id : Uuid) (row : Row) → get rows (key.table, id) ≡ Some row → is_at schema ((key.table, id), row) key ≡ true → is_in schema rows key id ≡ true
-at_row schema rows key id row has is = ap (is_some_and (λ (r : Row). is_at schema ((key.table, id), r) key)) has ∙ is
+at_row : (schema : Schema) (rows : Database) (key : IndexKey) (id : Uuid) → RowAt schema rows key id → is_in schema rows key id ≡ true
+at_row schema rows key id (row, has, is) = ap (is_some_and (λ (r : Row). is_at schema ((key.table, id), r) key)) has ∙ is
 
 module _ (indexes : Indexes) (key : IndexKey) (id : Uuid) where
   kept_in : (ids : IdSet) → get indexes key ≡ Some ids → contains_key ids id ≡ true → is_indexed indexes key id ≡ true
@@ -52,10 +48,11 @@ module _ (indexes : Indexes) (key : IndexKey) (id : Uuid) where
   in_kept is = some_and_is (λ (set : IdSet). contains_key set id) (get indexes key) is
 
 two_apart : (schema : Schema) (rows : Database) (key : IndexKey) (a b : Uuid) → bytes_eq a b ≡ false → RowAt schema rows key a → RowAt schema rows key b → IsShared schema rows
-two_apart schema rows key a b differ at_a at_b = (key, a, b, at_a.0, at_b.0, record { differ = differ; at_a = at_a.1; at_b = at_b.1; is_a = at_a.2; is_b = at_b.2 })
+two_apart schema rows key a b differ at_a at_b = (key, a, b, record { differ = differ; at_a = at_a; at_b = at_b })
 
 shared_is_alike : (schema : Schema) (rows : Database) → Suits schema rows → IsShared schema rows → are_any_alike schema rows ≡ true
-shared_is_alike schema rows suits (key, a, b, r, s, shared) = shared_alike schema rows key a b r s (suits (key.table, a) r shared.at_a) (suits (key.table, b) s shared.at_b) shared
+shared_is_alike schema rows suits (key, a, b, shared) =
+    shared_alike schema rows key a b shared (suits (key.table, a) shared.at_a.0 shared.at_a.1) (suits (key.table, b) shared.at_b.0 shared.at_b.1)
 
 -- ---- all rows
 
@@ -72,9 +69,9 @@ two_alike_at schema rows indexes are suits = same_truth (has_two (entries indexe
         (two_apart schema rows key two.0 two.1 two.2.2 (row_at schema rows key two.0 (sym (are key two.0) ∙ kept_in indexes key two.0 found.1 found.2 two.2.0)) (row_at schema rows key two.1 (sym (are key two.1) ∙ kept_in indexes key two.1 found.1 found.2 two.2.1)))
 
     kept_twice : IsShared schema rows → has_two (entries indexes) ≡ true
-    kept_twice (key, a, b, r, s, shared) =
-        let in_a = in_kept indexes key a (are key a ∙ at_row schema rows key a r shared.at_a shared.is_a) in
-        let in_b = in_kept indexes key b (are key b ∙ at_row schema rows key b s shared.at_b shared.is_b) in
+    kept_twice (key, a, b, shared) =
+        let in_a = in_kept indexes key a (are key a ∙ at_row schema rows key a shared.at_a) in
+        let in_b = in_kept indexes key b (are key b ∙ at_row schema rows key b shared.at_b) in
         let same : in_b.0 ≡ in_a.0 = same_Some in_b.0 in_a.0 (sym in_b.1 ∙ in_a.1) in
         entry_is_any index_cmp index_total index_exact (λ (e : IndexKey × IdSet). nat_lt 1 (len e.1)) indexes key in_a.0 in_a.1
         (are_two in_a.0 a b (in_a.2, ap (λ (ids : IdSet). contains_key ids b) (sym same) ∙ in_b.2, shared.differ))
@@ -160,18 +157,18 @@ module _ (schema : Schema) (indexes : Indexes) (changes : Changes) (sorted : T (
       (row.0, is_after (key.table, id) ∙ ap (λ o. unwrap_or o (get before (key.table, id))) (none_is (change_at (key.table, id)) still) ∙ row.1, row.2)
 
   -- a row after the changes was put by one of them, or it was there before
-  from_after : (key : IndexKey) (id : Uuid) (row : Row) → get after (key.table, id) ≡ Some row → is_at schema ((key.table, id), row) key ≡ true
-      → (b : Bool) → is_some (change_at (key.table, id)) ≡ b → cond b (is_indexed changed key id ≡ true) ((is_indexed indexes key id ≡ true) × (get before (key.table, id) ≡ Some row))
-  from_after key id row has is true touched =
+  from_after : (key : IndexKey) (id : Uuid) (at : RowAt schema after key id)
+      → (b : Bool) → is_some (change_at (key.table, id)) ≡ b → cond b (is_indexed changed key id ≡ true) ((is_indexed indexes key id ≡ true) × (get before (key.table, id) ≡ Some at.0))
+  from_after key id (row, has, is) true touched =
       kept_is key id ∙ by (change_at (key.table, id)) refl touched
     where
       by : (o : Option (Option Row)) → change_at (key.table, id) ≡ o → is_some o ≡ true → is_some_and (is_row schema key id) o ≡ true
       by None at t = cc
       by (Some n) at t = ap (is_row schema key id) (sym (ap (λ o. unwrap_or o (get before (key.table, id))) at) ∙ sym (is_after (key.table, id)) ∙ has) ∙ is
-  from_after key id row has is false still =
+  from_after key id (row, has, is) false still =
       let was : get before (key.table, id) ≡ Some row =
       sym (ap (λ o. unwrap_or o (get before (key.table, id))) (none_is (change_at (key.table, id)) still)) ∙ sym (is_after (key.table, id)) ∙ has in
-      (are key id ∙ at_row schema before key id row was is, was)
+      (are key id ∙ at_row schema before key id (row, was, is), was)
 
   differ_by : (key : IndexKey) (a b : Uuid) → is_some (change_at (key.table, a)) ≡ true → is_some (change_at (key.table, b)) ≡ false → bytes_eq a b ≡ false
   differ_by key a b touched still = by (bytes_eq a b) refl
@@ -238,17 +235,18 @@ module _ (schema : Schema) (indexes : Indexes) (changes : Changes) (sorted : T (
       by true is = absurd (contradicts (bytes_eq a b) ((bytes_eq-Decides a b).1 (sym ((bytes_eq-Decides b a).0 is))) differ)
 
   after_shared : are_any_alike schema before ≡ false → Suits schema after → IsShared schema after → list_any (is_shared indexes changes) (entries changed) ≡ true
-  after_shared none suits (key, a, b, r, s, shared) = by (is_some (change_at (key.table, a))) (is_some (change_at (key.table, b))) refl refl
+  after_shared none suits (key, a, b, shared) = by (is_some (change_at (key.table, a))) (is_some (change_at (key.table, b))) refl refl
     where
       by : (in_a in_b : Bool) → is_some (change_at (key.table, a)) ≡ in_a → is_some (change_at (key.table, b)) ≡ in_b → list_any (is_shared indexes changes) (entries changed) ≡ true
-      by true true so_a so_b = both_put key a b shared.differ (from_after key a r shared.at_a shared.is_a true so_a) (from_after key b s shared.at_b shared.is_b true so_b)
-      by true false so_a so_b = one_put key a b (from_after key a r shared.at_a shared.is_a true so_a) (from_after key b s shared.at_b shared.is_b false so_b).0 so_b
-      by false true so_a so_b = one_put key b a (from_after key b s shared.at_b shared.is_b true so_b) (from_after key a r shared.at_a shared.is_a false so_a).0 so_a
+      by true true so_a so_b = both_put key a b shared.differ (from_after key a shared.at_a true so_a) (from_after key b shared.at_b true so_b)
+      by true false so_a so_b = one_put key a b (from_after key a shared.at_a true so_a) (from_after key b shared.at_b false so_b).0 so_b
+      by false true so_a so_b = one_put key b a (from_after key b shared.at_b true so_b) (from_after key a shared.at_a false so_a).0 so_a
       by false false so_a so_b =
-          let was_a = (from_after key a r shared.at_a shared.is_a false so_a).1 in
-          let was_b = (from_after key b s shared.at_b shared.is_b false so_b).1 in
+          let was_a = (from_after key a shared.at_a false so_a).1 in
+          let was_b = (from_after key b shared.at_b false so_b).1 in
           absurd (contradicts (are_any_alike schema before)
-          (shared_alike schema before key a b r s (suits (key.table, a) r shared.at_a) (suits (key.table, b) s shared.at_b) (record { differ = shared.differ; at_a = was_a; at_b = was_b; is_a = shared.is_a; is_b = shared.is_b }))
+          (shared_alike schema before key a b (record { differ = shared.differ; at_a = (shared.at_a.0, was_a, shared.at_a.2); at_b = (shared.at_b.0, was_b, shared.at_b.2) })
+          (suits (key.table, a) shared.at_a.0 shared.at_a.1) (suits (key.table, b) shared.at_b.0 shared.at_b.1))
           none)
 
 -- if no two were alike, the keys of the changed rows say whether two are

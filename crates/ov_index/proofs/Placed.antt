@@ -144,20 +144,26 @@ makes schema key id c = has_entry key id (entries_of_row schema c.0 c.1)
 abbrev unmakes : Schema → Database → IndexKey → Uuid → LineKey × Option Row → Bool
 unmakes schema rows key id c = has_entry key id (entries_of_row schema c.0 (get rows c.0)) && not (makes schema key id c)
 
--- what the remaining changes add to what is there, and what they take away in addition to what goes
-pub record ArePlacedTo (schema : Schema) (rows : Database) (left : Changes) (now : Indexes) (gone : List IndexEntry) (all : Changes) (before : Indexes) : Type 0 where
-  pub made : (key : IndexKey) (id : Uuid) → (is_indexed now key id || list_any (makes schema key id) left) ≡ (is_indexed before key id || list_any (makes schema key id) all)
-  pub unmade : (key : IndexKey) (id : Uuid) → (has_entry key id gone || list_any (unmakes schema rows key id) left) ≡ list_any (unmakes schema rows key id) all
+-- the changes that remain, with the indexes so far, and the entries that go
+pub record Placing : Type 0 where
+  pub left : Changes
+  pub indexes : Indexes
+  pub gone : List IndexEntry
 
-pub placed-start : (schema : Schema) (rows : Database) (all : Changes) (indexes : Indexes) (gone : List IndexEntry) → gone ≡ [] → ArePlacedTo schema rows all indexes gone all indexes
+-- what the remaining changes add to what is there, and what they take away in addition to what goes
+pub record ArePlacedTo (schema : Schema) (rows : Database) (all : Changes) (before : Indexes) (now : Placing) : Type 0 where
+  pub made : (key : IndexKey) (id : Uuid) → (is_indexed now.indexes key id || list_any (makes schema key id) now.left) ≡ (is_indexed before key id || list_any (makes schema key id) all)
+  pub unmade : (key : IndexKey) (id : Uuid) → (has_entry key id now.gone || list_any (unmakes schema rows key id) now.left) ≡ list_any (unmakes schema rows key id) all
+
+pub placed-start : (schema : Schema) (rows : Database) (all : Changes) (indexes : Indexes) (gone : List IndexEntry) → gone ≡ [] → ArePlacedTo schema rows all indexes (record { left = all; indexes = indexes; gone = gone })
 placed-start schema rows all indexes gone none = record {
   made = λ key id. refl;
   unmade = λ key id. ap (λ es. has_entry key id es || list_any (unmakes schema rows key id) all) none;
 }
 
 pub placed-next : (schema : Schema) (rows : Database) (c : LineKey × Option Row) (left all : Changes) (before now after : Indexes) (gone more old new : List IndexEntry)
-    → ArePlacedTo schema rows (c ∷ left) now gone all before → new ≡ entries_of_row schema c.0 c.1 → old ≡ entries_of_row schema c.0 (get rows c.0) → AreAdded new now after → AreMoreGone old new gone more
-    → ArePlacedTo schema rows left after more all before
+    → ArePlacedTo schema rows all before (record { left = c ∷ left; indexes = now; gone = gone }) → new ≡ entries_of_row schema c.0 c.1 → old ≡ entries_of_row schema c.0 (get rows c.0) → AreAdded new now after → AreMoreGone old new gone more
+    → ArePlacedTo schema rows all before (record { left = left; indexes = after; gone = more })
 placed-next schema rows c left all before now after gone more old new so is_new is_old added went = record {
   made = λ key id.
       ap (λ b. b || list_any (makes schema key id) left) (added key id ∙ ap (λ es. is_indexed now key id || has_entry key id es) is_new)
@@ -207,7 +213,7 @@ module _ (schema : Schema) (rows : Database) (all : Changes) (sorted : T (is_sor
 
 -- without the entries that go, the indexes are those of the rows after the changes
 pub placed_is : (schema : Schema) (rows : Database) (all : Changes) (before now : Indexes) (gone : List IndexEntry) → T (is_sorted line_cmp all) → AreIndexesOf schema rows before
-    → ArePlacedTo schema rows [] now gone all before → IsPlaced schema all rows gone now
+    → ArePlacedTo schema rows all before (record { left = []; indexes = now; gone = gone }) → IsPlaced schema all rows gone now
 placed_is schema rows all before now gone sorted are so after is_after key id =
     let line : LineKey = (key.table, id) in
     indexed-without_entries gone now key id

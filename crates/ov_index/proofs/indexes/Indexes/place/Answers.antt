@@ -37,7 +37,7 @@ loop-key-preserved c =
     let old = c.in_ok-old.old.items in (
       same-then [] c.loop-key.room.added.items c.add_all_new.new.added.items before now c.add_all_new.new.self c.loop-key.invariant.0 c.add_all_new.ensures.back,
       placed-next schema rows (key, c.in-Some.row.now) c.next.new.self all before now c.add_all_new.new.self gone more old c.in_ok-new.new.items
-          (subst (λ (left : Changes). ArePlacedTo schema rows left now gone all before) c.in-Some.ensures.steps c.loop-key.invariant.1)
+          (subst (λ (left : Changes). ArePlacedTo schema rows all before (record { left = left; indexes = now; gone = gone })) c.in-Some.ensures.steps c.loop-key.invariant.1)
           (c.in_ok-new.ensures ∙ ap (entries_of_row schema key) c.as_ref.ensures.value)
           (c.in_ok-old.ensures ∙ ap (entries_of_row schema key) (c.row.ensures ∙ (λ i. get rows (c.table.ensures i, c.id.ensures i))))
           c.in_ok-add_all_new.ensures.on (subst (λ (new : List IndexEntry). AreMoreGone old new gone more) c.as_slice.ensures.value c.in_ok-push_gone.ensures),
@@ -55,5 +55,5 @@ returns-clause-on c =
     let gone = c.loop-key.room.gone.items in
     let given = c.into_iter-key-iterator.ensures.into_iter_gives in
     placed_is schema rows c.args.changes.now.entries before now gone (ascends line_cmp _ given.5) c.requires.indexed
-    (subst (λ (all : Changes). ArePlacedTo schema rows [] now gone all before) given.0
-    (subst (λ (left : Changes). ArePlacedTo schema rows left now gone c.into_iter-key-iterator.result before) c.in-None.ensures.steps.0 c.loop-key.invariant.1))
+    (subst (λ (all : Changes). ArePlacedTo schema rows all before (record { left = []; indexes = now; gone = gone })) given.0
+    (subst (λ (left : Changes). ArePlacedTo schema rows c.into_iter-key-iterator.result before (record { left = left; indexes = now; gone = gone })) c.in-None.ensures.steps.0 c.loop-key.invariant.1))

@@ -6,4 +6,5 @@ use Rattle.ov_index.proofs.indexes.Indexes.place.Given as goal
 abbrev pub invariant-loop-key : goal.invariant-loop-key
 invariant-loop-key l =
     IsSameWithout [] l.fn.self l.room.added.items l.self
-    × ArePlacedTo l.schema l.rows l.key-iterator l.self l.room.gone.items l.initial.key-iterator l.fn.self
+    × ArePlacedTo l.schema l.rows l.initial.key-iterator l.fn.self
+    (record { left = l.key-iterator; indexes = l.self; gone = l.room.gone.items })
