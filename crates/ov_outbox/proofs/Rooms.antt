@@ -147,9 +147,9 @@ unlock-posted s id name (Some next) = refl
 
 pub unlock-sends : (s : ℕ) (id : Data) (name : List ℕ) (queues : Queues) (reply : List ℕ) (notification : Option (ℕ × List ℕ)) (first kept sent end : WaitingFrames)
     → reply ≡ frame (reply_tree id (object no_members)) → notification ≡ freeing.told name (next_owner name s queues)
-    → HasSameFrames first kept → PostsFrame s reply kept sent → PostsAll (option_to_list notification) sent end → PostsSent (sent_of_call Unlock s id name queues) first end
+    → HasSameFrames first kept → PostsFrame s reply kept sent → PostsAll (option_to_list notification) sent end → PostsSent (sent_of_call (record { call = Unlock; session = s; id = id; name = name }) queues) first end
 unlock-sends s id name queues reply notification first kept sent end reply_is notification_is same added all =
-    posts_sent ((s, reply) ∷ option_to_list notification) first end (replies s reply (option_to_list notification) first kept sent end same added all) (sent_of_call Unlock s id name queues)
+    posts_sent ((s, reply) ∷ option_to_list notification) first end (replies s reply (option_to_list notification) first kept sent end same added all) (sent_of_call (record { call = Unlock; session = s; id = id; name = name }) queues)
     ((λ i. (s, reply_is i) ∷ option_to_list (notification_is i)) ∙ unlock-posted s id name (next_owner name s queues))
 
 -- what the answer of a table says

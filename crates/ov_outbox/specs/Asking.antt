@@ -9,28 +9,39 @@ use Rattle.ov_locks.specs.declared.fault.LockFault.{LockFault}
 use Rattle.ov_outbox.specs.Frames.{WaitingFrames, HasSameFrames, HasSamePlaces, PostsSent}
 use Rattle.ov_outbox.specs.Outbox.{Outbox}
 
+-- A request of a session about a lock, with the id of its reply (RFC 7047, 4.1.8).
+pub record LockRequest : Type 0 where
+  pub call : LockCall
+  pub session : ℕ
+  pub id : Data
+  pub name : List ℕ
+
 -- what is sent: the reply, and then the notification of another session (RFC 7047, 4.1.8 to 4.1.10)
-abbrev pub sent_of_call : LockCall → ℕ → Data → List ℕ → Queues → List Sent
-sent_of_call call session id name queues =
-    to_session session (reply_tree id (call_result call name queues) ∷ []) ++ told (option_to_list (told_of_call call name session queues))
+abbrev pub sent_of_call : LockRequest → Queues → List Sent
+sent_of_call request queues =
+    to_session request.session
+    (reply_tree request.id (call_result request.call request.name queues) ∷ [])
+    ++ told (option_to_list (told_of_call request.call request.name request.session queues))
 
--- the call is not refused, and all of that is sent
-pub record IsAnswered (call : LockCall) (session : ℕ) (id : Data) (name : List ℕ) (old new : Outbox) : Type 0 where
-  pub goes : call_refusal call name session old.queues ≡ None
-  pub queues : new.queues ≡ after_call call name session old.queues
-  pub sends : PostsSent (sent_of_call call session id name old.queues) old.frames new.frames
+-- the request is not refused, and all of that is sent
+pub record IsAnswered (request : LockRequest) (old new : Outbox) : Type 0 where
+  pub goes : call_refusal request.call request.name request.session old.queues ≡ None
+  pub queues : new.queues ≡ after_call request.call request.name request.session old.queues
+  pub sends : PostsSent (sent_of_call request old.queues) old.frames new.frames
 
--- the call is refused with the text of the fault, if it is reported, and nothing is changed
-pub record IsRefused (call : LockCall) (session : ℕ) (name : List ℕ) (old : Outbox) (fault : LockFault) (new : Outbox) : Type 0 where
-  pub text : IfSome (fault_text fault) (λ text. call_refusal call name session old.queues ≡ Some text)
+-- the request is refused with the text of the fault, if it is reported, and nothing is changed
+pub record IsRefused
+    (request : LockRequest) (old : Outbox) (fault : LockFault) (new : Outbox) : Type 0 where
+  pub text : IfSome (fault_text fault)
+      (λ text. call_refusal request.call request.name request.session old.queues ≡ Some text)
   pub queues : new.queues ≡ old.queues
   pub frames : HasSameFrames old.frames new.frames
   pub places : HasSamePlaces old.frames new.frames
 
 -- one or the other
-abbrev pub IsAsked : LockCall → ℕ → Data → List ℕ → Outbox → Result (Unit {0}) LockFault → Outbox → Type 0
-IsAsked call session id name old (Ok done) new = IsAnswered call session id name old new
-IsAsked call session id name old (Err fault) new = IsRefused call session name old fault new
+abbrev pub IsAsked : LockRequest → Outbox → Result (Unit {0}) LockFault → Outbox → Type 0
+IsAsked request old (Ok done) new = IsAnswered request old new
+IsAsked request old (Err fault) new = IsRefused request old fault new
 
 -- an outbox of these frames and these queues
 abbrev pub parts : WaitingFrames → Queues → Outbox

@@ -39,8 +39,9 @@ pub(crate) fn lock(
 ) -> Result<(), LockFault>
     requires order { DoQueuesAscend locks.old.0 }
     requires room { HasRoom frames.old locks.old.0 }
-    ensures asked { IsAsked Lock session id.now name.now (parts frames.old locks.old.0) result
-        (parts frames.new locks.new.0) }
+    ensures asked { IsAsked
+        (record { call = Lock; session = session; id = id.now; name = name.now })
+        (parts frames.old locks.old.0) result (parts frames.new locks.new.0) }
     ensures room { HasRoom frames.new locks.new.0 }
     ensures freed { locks.new.1 ≡ locks.old.1 }
 {
@@ -75,8 +76,9 @@ pub(crate) fn steal(
 ) -> Result<(), LockFault>
     requires order { DoQueuesAscend locks.old.0 }
     requires room { HasRoom frames.old locks.old.0 }
-    ensures asked { IsAsked Steal session id.now name.now (parts frames.old locks.old.0) result
-        (parts frames.new locks.new.0) }
+    ensures asked { IsAsked
+        (record { call = Steal; session = session; id = id.now; name = name.now })
+        (parts frames.old locks.old.0) result (parts frames.new locks.new.0) }
     ensures room { HasRoom frames.new locks.new.0 }
     ensures freed { locks.new.1 ≡ locks.old.1 }
 {
@@ -115,8 +117,9 @@ pub(crate) fn unlock(
 ) -> Result<(), LockFault>
     requires order { DoQueuesAscend locks.old.0 }
     requires room { HasRoom frames.old locks.old.0 }
-    ensures asked { IsAsked Unlock session id.now name.now (parts frames.old locks.old.0) result
-        (parts frames.new locks.new.0) }
+    ensures asked { IsAsked
+        (record { call = Unlock; session = session; id = id.now; name = name.now })
+        (parts frames.old locks.old.0) result (parts frames.new locks.new.0) }
     ensures room { HasRoom frames.new locks.new.0 }
     ensures freed { locks.new.1 ≡ locks.old.1 }
 {

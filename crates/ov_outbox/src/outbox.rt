@@ -150,7 +150,9 @@ impl Outbox {
         id: &Tree,
         name: &str,
     ) -> Result<(), LockFault>
-        ensures { IsAsked (lock_call_view call) session id.now name.now self.old result self.new }
+        ensures { IsAsked
+            (record { call = lock_call_view call; session = session; id = id.now; name = name.now })
+            self.old result self.new }
     {
         self.locks.in_order();
         match call {
