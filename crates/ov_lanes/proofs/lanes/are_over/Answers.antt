@@ -1,4 +1,4 @@
-use Rattle.std.proofs.Common.{rules, ◌≡◌, ◌<◌, ◌∙◌, List, Option, None, Some, length, get_or}
+use Rattle.std.proofs.Common.{rules, ◌≡◌, ◌<◌, ◌∙◌, None, Some, length, get_or}
 use Rattle.std.proofs.lemmas.List.{get_or_default}
 use Rattle.ov_lanes.proofs.lanes.are_over.Goals.{then-not-lane-via-then-not-lane, then-not-lane-via-else-not-lane+then-not-lane-2}
 use Rattle.ov_lanes.proofs.lanes.are_over.Goals as goal
