@@ -10,7 +10,7 @@ use Rattle.ov_specs.specs.machine.Machine as machine
 use Rattle.ov_specs.specs.machine.Machine.{State, Sent, Outstanding, tries_again, told}
 use Rattle.ov_specs.specs.operations.Transaction.{TransactionOutcome, Waits, transaction}
 use Rattle.ov_specs.proofs.laws.Settling.{settle_counts}
-use Rattle.ov_specs.proofs.laws.SettlingOn.{Reaches, made_by, reaches_first, reaches_skip, reaches_next, reaches_again, reaches_last}
+use Rattle.ov_specs.proofs.laws.SettlingOn.{Reaches, made_by, reaches_first, reaches_skip, reaches_next, reaches_again, reaches_last, at_point}
 use Rattle.ov_db.specs.KeptDatabase.{KeptDatabase}
 use Rattle.ov_outbox.specs.Frames.{waiting_for, PostsSent, HasSameFrames}
 use Rattle.ov_outbox.specs.Outbox.{Outbox}
@@ -135,7 +135,7 @@ module _ {K : Type 0} (failed : K → ℕ) (m first : ℕ) (from : Live K) (befo
 
   -- one attempt more
   one_more : (x : IsSettling failed m first (settling_at from before) (settling_at now listed) number) (o : Option Outcome) (sent : List Sent) (new : Live K) (more : List Attempt) → more ≡ listed ++ listed_by number o
-      → Reaches (state_of from m) first (x.made ++ made_by number (listed_of o)) (state_of new m) (x.sent ++ sent) (number + 1) new.waiting.untried
+      → Reaches (state_of from m) first (x.made ++ made_by number (listed_of o)) (at_point (state_of new m) (x.sent ++ sent) (number + 1) new.waiting.untried)
       → PostsSent sent now.outbox.frames new.outbox.frames → AsksStore failed o now.database new.database → failed now.database.keeper ≤ failed new.database.keeper
       → IsLeft now.sessions.open_sessions new.sessions.open_sessions → new.tries ≡ now.tries + 1 → Few (number + 1) new.waiting → IsSettling failed m first (settling_at from before) (settling_at new more) (number + 1)
   one_more x o sent new more is reaches posts asks counts left tries few = record {
@@ -152,8 +152,8 @@ module _ {K : Type 0} (failed : K → ℕ) (m first : ℕ) (from : Live K) (befo
   }
 
   module _ (x : IsSettling failed m first (settling_at from before) (settling_at now listed) number) (w : Outstanding) (rest : List Outstanding) (next : now.waiting.untried ≡ w ∷ rest) where
-    here : Reaches (state_of from m) first x.made (state_of now m) x.sent number (w ∷ rest)
-    here = subst (λ (ws : List Outstanding). Reaches (state_of from m) first x.made (state_of now m) x.sent number ws) next x.reaches
+    here : Reaches (state_of from m) first x.made (at_point (state_of now m) x.sent number (w ∷ rest))
+    here = subst (λ (ws : List Outstanding). Reaches (state_of from m) first x.made (at_point (state_of now m) x.sent number ws)) next x.reaches
 
     one : length rest + 1 ≡ length now.waiting.untried
     one = omega (arith, ap (λ (ws : List Outstanding). length ws) next)
@@ -187,7 +187,7 @@ module _ {K : Type 0} (failed : K → ℕ) (m first : ℕ) (from : Live K) (befo
           → IsLeft now.sessions.open_sessions new.sessions.open_sessions → new.tries ≡ now.tries + 1 → Few (number + 1) new.waiting → IsSettling failed m first (settling_at from before) (settling_at new more) (number + 1)
       next_one o not_kept sent new more is again untried posts asks counts left tries few =
           one_more x o sent new more is
-          (subst (λ (ws : List Outstanding). Reaches (state_of from m) first (x.made ++ made_by number (listed_of o)) (state_of new m) (x.sent ++ sent) (number + 1) ws) (sym untried)
+          (subst (λ (ws : List Outstanding). Reaches (state_of from m) first (x.made ++ made_by number (listed_of o)) (at_point (state_of new m) (x.sent ++ sent) (number + 1) ws)) (sym untried)
           (reaches_next (state_of from m) first x.made (state_of now m) x.sent number w rest here (listed_of o) (record { state = state_of new m; sent = sent }) there again not_kept))
           posts asks counts left tries few
 
@@ -254,7 +254,7 @@ module _ {K : Type 0} (failed : K → ℕ) (m first : ℕ) (from : Live K) (befo
             omega (arith, few)))
           where
             again : (c : IsCompleted (request (sessions_of now.watchers now.sessions.open_sessions) w.session w.id on) (trial_state now.database now.outbox.frames) (Some outcome.Committed) (trial_state db outbox.frames))
-                → Reaches (state_of from m) first (x.made ++ made_by number (listed_of (Some outcome.Committed))) (state_of (tried_again mid) m) (x.sent ++ c.sent) (number + 1) (tried_again mid).waiting.untried
+                → Reaches (state_of from m) first (x.made ++ made_by number (listed_of (Some outcome.Committed))) (at_point (state_of (tried_again mid) m) (x.sent ++ c.sent) (number + 1) (tried_again mid).waiting.untried)
             again c =
                 let reached = reaches_again (state_of from m) first x.made (state_of now m) x.sent number w rest here (Some machine.Committed) (record { state = with_db (state_of now m) db; sent = c.sent }) there (completes_again (Some outcome.Committed) c refl) refl in
                 rw (queues, ← still-same now.watchers now.sessions.open_sessions rest) reached
@@ -293,4 +293,4 @@ ended failed m first old before new listed number x none = record {
 }
   where
     settled : machine.settle (state_of old m) first x.made ≡ Some (record { tried = record { stepped = record { state = state_of new m; sent = x.sent }; others = [] }; next = number; has_changed = false })
-    settled = reaches_last (state_of old m) first x.made (state_of new m) x.sent number (subst (λ (ws : List Outstanding). Reaches (state_of old m) first x.made (state_of new m) x.sent number ws) none x.reaches)
+    settled = reaches_last (state_of old m) first x.made (state_of new m) x.sent number (subst (λ (ws : List Outstanding). Reaches (state_of old m) first x.made (at_point (state_of new m) x.sent number ws)) none x.reaches)

@@ -4,7 +4,7 @@ use Rattle.std.specs.List.{filter}
 use Rattle.ov_specs.specs.machine.Machine as machine
 use Rattle.ov_specs.specs.machine.Machine.{Sent, settle}
 use Rattle.ov_specs.specs.values.Uuid.{Uuid}
-use Rattle.ov_specs.proofs.laws.SettlingOn.{Reaches}
+use Rattle.ov_specs.proofs.laws.SettlingOn.{Reaches, at_point}
 use Rattle.ov_outbox.specs.Frames.{PostsSent}
 use Rattle.ov_sessions.specs.Sessions.{IsLeft, has_serial}
 use Rattle.ov_requests.specs.Waiting.{WaitingList, many}
@@ -50,7 +50,7 @@ pub record IsSettling {K : Type 0} (failed : K → ℕ) (moment first : ℕ) (fr
   pub made : List machine.Attempt
   pub lists : map attempt_view now.listed ≡ map attempt_view from.listed ++ made
   pub sent : List Sent
-  pub reaches : Reaches (state_of from.live moment) first made (state_of now.live moment) sent number now.live.waiting.untried
+  pub reaches : Reaches (state_of from.live moment) first made (at_point (state_of now.live moment) sent number now.live.waiting.untried)
   pub posts : PostsSent sent from.live.outbox.frames now.live.outbox.frames
   pub asks : AsksAll failed made from.live.database now.live.database
   pub left : IsLeft from.live.sessions.open_sessions now.live.sessions.open_sessions

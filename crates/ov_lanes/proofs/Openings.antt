@@ -9,7 +9,7 @@ use Rattle.ov_specs.specs.machine.Machine as machine
 use Rattle.ov_specs.specs.machine.Machine.{State, Entry, is_open}
 use Rattle.ov_specs.specs.machine.History.{requests, closed_by, frames_to}
 use Rattle.ov_specs.proofs.laws.Histories.{option_or_none}
-use Rattle.ov_specs.proofs.laws.Turns.{Turn, turn_open}
+use Rattle.ov_specs.proofs.laws.Turns.{Turn, turn_open, session_after}
 use Rattle.ov_specs.proofs.laws.Truths.{or_truth, or_nothing}
 use Rattle.ov_outbox.specs.Frames.{waiting_for}
 use Rattle.ov_sessions.specs.declared.session.Session.{Session}
@@ -62,7 +62,7 @@ none_entered a known = refl
 -- ---- one session more
 
 module _ {K D : Type 0} {start a b : CoreState K D} (p : Since start a) (e : Entry) (is : e.event ≡ machine.Open) (x : EnteredTo p e b) where
-  turn : (n : ℕ) → Turn n a.state e b.state (is_open a.state n || eqb a.state.next n) (a.state.next + 1) [] None
+  turn : (n : ℕ) → Turn n a.state e b.state (session_after (is_open a.state n || eqb a.state.next n) (a.state.next + 1) [] None)
   turn n = turn_open n a.state e (record { state = b.state; sent = x.sent }) x.stepped is
 
   pub asks_same : (n : ℕ) → requests x.after.entries n ≡ requests p.entries n

@@ -10,9 +10,9 @@ use Rattle.ov_specs.specs.machine.History.{requests, closed_by}
 use Rattle.std.specs.Option.{option_or}
 use Rattle.ov_specs.specs.schema.SchemaTypes.{Schema}
 use Rattle.ov_specs.specs.rows.Database.{Database}
-use Rattle.ov_specs.specs.machine.Streams.{StreamEvent, Opens, Feed, Finish, Passes, Streams, no_streams, with_fed, IsEntryAt, Feeds, Expands, ExpandsTimed}
+use Rattle.ov_specs.specs.machine.Streams.{StreamEvent, Opens, Feed, Finish, Passes, Streams, no_streams, with_fed, IsEntryAt, Feeds, Expands, ExpandsTimed, FedState, delivered, fed_state}
 use Rattle.ov_specs.proofs.laws.Histories.{Leads, leads_none, leads_more, option_or_none, requests_more, closed_by_more}
-use Rattle.ov_specs.proofs.laws.Turns.{Turn, MayClose, turn_open, turn_tick, turn_close, turn_close_other, turn_take, turn_take_other}
+use Rattle.ov_specs.proofs.laws.Turns.{Turn, MayClose, turn_open, turn_tick, turn_close, turn_close_other, turn_take, turn_take_other, session_after}
 use Rattle.ov_laws.specs.Requests.{AreAskedFor}
 use Rattle.ov_specs.proofs.laws.Truths.{or_nothing}
 
@@ -39,7 +39,7 @@ keeps_same n stream {a} {b} {i} {j} {x} {y} {c} {d} p q r t k =
     (subst (λ (v : Bool). Keeps n stream v i x c) p k)))
 
 -- what one entry makes of a session
-turned : (before : State) (n : ℕ) (stream : List ℕ) (s : State) (h : List Entry) (e : Entry) (t : Stepped) (o : Bool) (next : ℕ) (taken : List Message) (cause : Option Cause) → step s e ≡ Some t → Turn n s e t.state o next taken cause → Leads before h s
+turned : (before : State) (n : ℕ) (stream : List ℕ) (s : State) (h : List Entry) (e : Entry) (t : Stepped) (o : Bool) (next : ℕ) (taken : List Message) (cause : Option Cause) → step s e ≡ Some t → Turn n s e t.state (session_after o next taken cause) → Leads before h s
     → Keeps n stream o next (requests h n ++ taken) (option_or (closed_by before h n) cause) → KeepsAt before n stream t.state (h ++ e ∷ [])
 turned before n stream s h e t o next taken cause stepped turn leads k =
     let r : requests (h ++ e ∷ []) n ≡ requests h n ++ taken = requests_more h e n ∙ ap (λ l. requests h n ++ l) turn.taken_is in
@@ -50,7 +50,7 @@ turned before n stream s h e t o next taken cause stepped turn leads k =
     }
 
 -- an entry that is nothing to the session
-aside : (before : State) (n : ℕ) (stream : List ℕ) (s : State) (h : List Entry) (e : Entry) (t : Stepped) → step s e ≡ Some t → Turn n s e t.state (is_open s n) s.next [] None → KeepsAt before n stream s h → KeepsAt before n stream t.state (h ++ e ∷ [])
+aside : (before : State) (n : ℕ) (stream : List ℕ) (s : State) (h : List Entry) (e : Entry) (t : Stepped) → step s e ≡ Some t → Turn n s e t.state (session_after (is_open s n) s.next [] None) → KeepsAt before n stream s h → KeepsAt before n stream t.state (h ++ e ∷ [])
 aside before n stream s h e t stepped turn k =
     turned before n stream s h e t (is_open s n) s.next [] None stepped turn k.leads (keeps_same n stream refl refl (sym (append-nil (requests h n))) (sym (option_or_none (closed_by before h n))) k.keeps)
 
@@ -62,7 +62,7 @@ opened_before n stream o next taken cause k there = elim (cases_lt n next) [
 ]
 
 -- a session that is closed by this entry
-shut : (before : State) (n : ℕ) (stream : List ℕ) (s : State) (h : List Entry) (e : Entry) (t : Stepped) (taken : List Message) (cause : Cause) → step s e ≡ Some t → Turn n s e t.state false s.next taken (Some cause) → n < s.next → Leads before h s → closed_by before h n ≡ None
+shut : (before : State) (n : ℕ) (stream : List ℕ) (s : State) (h : List Entry) (e : Entry) (t : Stepped) (taken : List Message) (cause : Cause) → step s e ≡ Some t → Turn n s e t.state (session_after false s.next taken (Some cause)) → n < s.next → Leads before h s → closed_by before h n ≡ None
     → AreAskedFor (Some cause) (requests h n ++ taken) (asked stream).messages → KeepsAt before n stream t.state (h ++ e ∷ [])
 shut before n stream s h e t taken cause stepped turn low leads none law =
     let c : Some cause ≡ option_or (closed_by before h n) (Some cause) = ap (λ o. option_or o (Some cause)) (sym none) in
@@ -105,7 +105,7 @@ module _ (before : State) (at n : ℕ) (stream : List ℕ) where
 
   -- its own entries keep it
   feeds_own : (s : State) (h : List Entry) (messages : List Message) (damaged : Bool) (entries : List Entry) (new : State) → is_open s n ≡ true → n < s.next → Leads before h s → closed_by before h n ≡ None
-      → requests h n ++ messages ≡ (asked stream).messages → (asked stream).damaged ≡ damaged → Feeds at s n messages damaged entries new → KeepsAt before n stream new (h ++ entries)
+      → requests h n ++ messages ≡ (asked stream).messages → (asked stream).damaged ≡ damaged → Feeds (delivered at n) s messages damaged entries new → KeepsAt before n stream new (h ++ entries)
   feeds_own s h [] false [] new there low leads none is d same = subst (λ (v : State). KeepsAt before n stream v (h ++ [])) (sym same) (subst (KeepsAt before n stream s) (sym (append-nil h)) (all_taken s h there low leads none is d))
   feeds_own s h [] true [] new there low leads none is d f = absurd f
   feeds_own s h [] false (e ∷ []) new there low leads none is d (t, inl enters, same) = subst (λ (v : State). KeepsAt before n stream v (h ++ e ∷ [])) (sym same) (by_memory s h [] e t low leads none is enters)
@@ -122,13 +122,13 @@ module _ (before : State) (at n : ℕ) (stream : List ℕ) where
       elim (turn_take n s e t enters.step message enters.event) [
         | inl turn ↦
             let there' : is_open t.state n ≡ true = turn.open_is ∙ there in
-            let on' : Feeds at t.state n messages damaged entries new = MatchBool-at_true (Feeds at t.state n messages damaged entries new) ((entries ≡ []) × (new ≡ t.state)) there' on in
+            let on' : Feeds (delivered at n) t.state messages damaged entries new = MatchBool-at_true (Feeds (delivered at n) t.state messages damaged entries new) ((entries ≡ []) × (new ≡ t.state)) there' on in
             let r : requests (h ++ e ∷ []) n ≡ requests h n ++ message ∷ [] = requests_more h e n ∙ ap (λ l. requests h n ++ l) turn.taken_is in
             let c : closed_by before (h ++ e ∷ []) n ≡ None = closed_by_more before h s e t n leads enters.step ∙ (ap (option_or (closed_by before h n)) turn.cause_is ∙ (option_or_none (closed_by before h n) ∙ none)) in
             let low' : n < t.state.next = omega (arith, turn.next_is) in
             subst (KeepsAt before n stream new) (append_assoc h (e ∷ []) entries) (feeds_own t.state (h ++ e ∷ []) messages damaged entries new there' low' (leads_more before h s e t leads enters.step) c (ap (λ l. l ++ messages) r ∙ is') d on')
         | inr (was, turn) ↦
-            let last : (entries ≡ []) × (new ≡ t.state) = MatchBool-at_false (Feeds at t.state n messages damaged entries new) ((entries ≡ []) × (new ≡ t.state)) turn.open_is on in
+            let last : (entries ≡ []) × (new ≡ t.state) = MatchBool-at_false (Feeds (delivered at n) t.state messages damaged entries new) ((entries ≡ []) × (new ≡ t.state)) turn.open_is on in
             subst (λ (v : State). KeepsAt before n stream v (h ++ e ∷ entries)) (sym last.1) (subst (λ (l : List Entry). KeepsAt before n stream t.state (h ++ e ∷ l)) (sym last.0)
             (shut before n stream s h e t (message ∷ []) Memory enters.step turn low leads none (messages, is')))
       ]
@@ -141,7 +141,7 @@ module _ (before : State) (at n : ℕ) (stream : List ℕ) (m : ℕ) (other : m 
   closes_other s h cause e t enters k = aside before n stream s h e t enters.step (turn_close_other n s e t enters.step m cause other enters.event) k
 
   -- its entries keep this one
-  feeds_other : (s : State) (h : List Entry) (messages : List Message) (damaged : Bool) (entries : List Entry) (new : State) → KeepsAt before n stream s h → Feeds at s m messages damaged entries new → KeepsAt before n stream new (h ++ entries)
+  feeds_other : (s : State) (h : List Entry) (messages : List Message) (damaged : Bool) (entries : List Entry) (new : State) → KeepsAt before n stream s h → Feeds (delivered at m) s messages damaged entries new → KeepsAt before n stream new (h ++ entries)
   feeds_other s h [] false [] new k same = subst (λ (v : State). KeepsAt before n stream v (h ++ [])) (sym same) (subst (KeepsAt before n stream s) (sym (append-nil h)) k)
   feeds_other s h [] true [] new k f = absurd f
   feeds_other s h [] false (e ∷ []) new k (t, inl enters, same) = subst (λ (v : State). KeepsAt before n stream v (h ++ e ∷ [])) (sym same) (closes_other s h Memory e t enters k)
@@ -157,10 +157,10 @@ module _ (before : State) (at n : ℕ) (stream : List ℕ) (m : ℕ) (other : m 
       let k' : KeepsAt before n stream t.state (h ++ e ∷ []) = may_close before n stream s h e t enters.step (turn_take_other n s e t enters.step m message other enters.event) k in
       elim (cases_Bool (is_open t.state m)) [
         | inl there ↦
-            let on' : Feeds at t.state m messages damaged entries new = MatchBool-at_true (Feeds at t.state m messages damaged entries new) ((entries ≡ []) × (new ≡ t.state)) there on in
+            let on' : Feeds (delivered at m) t.state messages damaged entries new = MatchBool-at_true (Feeds (delivered at m) t.state messages damaged entries new) ((entries ≡ []) × (new ≡ t.state)) there on in
             subst (KeepsAt before n stream new) (append_assoc h (e ∷ []) entries) (feeds_other t.state (h ++ e ∷ []) messages damaged entries new k' on')
         | inr away ↦
-            let last : (entries ≡ []) × (new ≡ t.state) = MatchBool-at_false (Feeds at t.state m messages damaged entries new) ((entries ≡ []) × (new ≡ t.state)) away on in
+            let last : (entries ≡ []) × (new ≡ t.state) = MatchBool-at_false (Feeds (delivered at m) t.state messages damaged entries new) ((entries ≡ []) × (new ≡ t.state)) away on in
             subst (λ (v : State). KeepsAt before n stream v (h ++ e ∷ entries)) (sym last.1) (subst (λ (l : List Entry). KeepsAt before n stream t.state (h ++ e ∷ l)) (sym last.0) k')
       ]
 
@@ -186,7 +186,7 @@ unfolding asked cut
 asked_nothing = refl
 
 -- a session that opens has asked for nothing
-opens_own : (before : State) (n : ℕ) (stream : List ℕ) (s : State) (h : List Entry) (e : Entry) (t : Stepped) → step s e ≡ Some t → Turn n s e t.state (is_open s n || eqb s.next n) (s.next + 1) [] None → s.next ≡ n → KeepsAt before n stream s h
+opens_own : (before : State) (n : ℕ) (stream : List ℕ) (s : State) (h : List Entry) (e : Entry) (t : Stepped) → step s e ≡ Some t → Turn n s e t.state (session_after (is_open s n || eqb s.next n) (s.next + 1) [] None) → s.next ≡ n → KeepsAt before n stream s h
     → KeepsAt before n stream t.state (h ++ e ∷ [])
 opens_own before n stream s h e t stepped turn is k =
     let (away, none_fed, none_taken, none) = k.keeps.to_come (omega arith) in
@@ -198,7 +198,7 @@ opens_own before n stream s h e t stepped turn is k =
     })
 
 -- another session opens
-opens_other : (before : State) (n : ℕ) (stream : List ℕ) (s : State) (h : List Entry) (e : Entry) (t : Stepped) → step s e ≡ Some t → Turn n s e t.state (is_open s n || eqb s.next n) (s.next + 1) [] None → s.next ≢ n → KeepsAt before n stream s h
+opens_other : (before : State) (n : ℕ) (stream : List ℕ) (s : State) (h : List Entry) (e : Entry) (t : Stepped) → step s e ≡ Some t → Turn n s e t.state (session_after (is_open s n || eqb s.next n) (s.next + 1) [] None) → s.next ≢ n → KeepsAt before n stream s h
     → KeepsAt before n stream t.state (h ++ e ∷ [])
 opens_other before n stream s h e t stepped turn ne k =
     let o : is_open s n ≡ (is_open s n || eqb s.next n) = sym (ap (λ b. is_open s n || b) (ne_eqb s.next n ne) ∙ or_nothing (is_open s n)) in
@@ -224,7 +224,7 @@ Ended at s streams m made =
 abbrev Pieces : ℕ → State → Streams → ℕ → List ℕ → Expansion → Type 0
 Pieces at s streams m bytes made =
     (messages : List Message) × ((asked (streams m ++ bytes)).messages ≡ (asked (streams m)).messages ++ messages)
-    × Feeds at s m messages (asked (streams m ++ bytes)).damaged made.entries made.state × (made.streams ≡ with_fed streams m bytes)
+    × Feeds (delivered at m) s messages (asked (streams m ++ bytes)).damaged made.entries made.state × (made.streams ≡ with_fed streams m bytes)
 
 module _ (before : State) (at n : ℕ) (s : State) (streams : Streams) (h k : List Entry) (new : State) (after : Streams) (keeps : KeepsAt before n (streams n) s h) where
   abbrev made : Expansion
@@ -289,7 +289,7 @@ module _ (before : State) (at n : ℕ) (s : State) (streams : Streams) (h k : Li
   ]
 
 -- a stream event keeps it
-expands : (before : State) (at n : ℕ) (s : State) (streams : Streams) (event : StreamEvent) (h k : List Entry) (new : State) (after : Streams) → KeepsAt before n (streams n) s h → Expands at s streams event k new after → KeepsAt before n (after n) new (h ++ k)
+expands : (before : State) (at n : ℕ) (s : State) (streams : Streams) (event : StreamEvent) (h k : List Entry) (new : State) (after : Streams) → KeepsAt before n (streams n) s h → Expands at (fed_state s streams) event k (fed_state new after) → KeepsAt before n (after n) new (h ++ k)
 expands before at n s streams Opens h k new after keeps (e, t, one, enters, state, same) = expands_open before at n s streams h k new after keeps e t one enters state same
 expands before at n s streams (Feed m bytes) h k new after keeps x = expands_feed before at n s streams h k new after keeps m bytes x
 expands before at n s streams (Finish m) h k new after keeps x = expands_finish before at n s streams h k new after keeps m x
@@ -299,11 +299,11 @@ expands before at n s streams (Passes ms) h k new after keeps (e, t, one, enters
 -- ---- all stream events
 
 -- a list of stream events keeps it
-expands_all : (before : State) (n : ℕ) (s : State) (streams : Streams) (events : List (ℕ × StreamEvent)) (h k : List Entry) (new : State) (after : Streams) → KeepsAt before n (streams n) s h → ExpandsTimed s streams events k new after → KeepsAt before n (after n) new (h ++ k)
-expands_all before n s streams [] h k new after keeps x = nothing before n s streams h k new after x keeps
-expands_all before n s streams (event ∷ events) h k new after keeps (front, rest, mid, between, parts, one, others) =
+expands_all : (before : State) (n : ℕ) (s : State) (streams : Streams) (events : List (ℕ × StreamEvent)) (h k : List Entry) (new : State) (after : Streams) → KeepsAt before n (streams n) s h → ExpandsTimed (fed_state s streams) events k (fed_state new after) → KeepsAt before n (after n) new (h ++ k)
+expands_all before n s streams [] h k new after keeps (none, same) = nothing before n s streams h k new after (none, ap (λ (f : FedState). f.state) same, ap (λ (f : FedState). f.streams) same) keeps
+expands_all before n s streams (event ∷ events) h k new after keeps (front, rest, between, parts, one, others) =
     subst (KeepsAt before n (after n) new) (append_assoc h front rest ∙ ap (λ (l : List Entry). h ++ l) (sym parts))
-    (expands_all before n mid between events (h ++ front) rest new after (expands before event.0 n s streams event.1 h front mid between keeps one) others)
+    (expands_all before n between.state between.streams events (h ++ front) rest new after (expands before event.0 n s streams event.1 h front between.state between.streams keeps one) others)
 
 -- before a session is opened
 at_first : (s : State) (streams : Streams) (n : ℕ) → is_open s n ≡ false → streams n ≡ [] → KeepsAt s n (streams n) s []
@@ -318,7 +318,7 @@ at_first s streams n shut unfed = record {
 
 -- what was taken from a session is what its stream asks for
 pub requests_are_asked_for : (before : State) (fed : Streams) (events : List (ℕ × StreamEvent)) (h : List Entry) (s : State) (streams : Streams) (n : ℕ)
-    → is_open before n ≡ false → fed n ≡ [] → ExpandsTimed before fed events h s streams → AreAskedFor (closed_by before h n) (requests h n) (asked (streams n)).messages
+    → is_open before n ≡ false → fed n ≡ [] → ExpandsTimed (fed_state before fed) events h (fed_state s streams) → AreAskedFor (closed_by before h n) (requests h n) (asked (streams n)).messages
 requests_are_asked_for before fed events h s streams n shut unfed x =
     let keeps : KeepsAt before n (streams n) s h = expands_all before n before fed events [] h s streams (at_first before fed n shut unfed) x in
     elim (cases_Bool (is_open s n)) [
@@ -329,5 +329,5 @@ requests_are_asked_for before fed events h s streams n shut unfed x =
     ]
 
 -- a session that is not opened yet has no stream
-pub not_fed_yet : (schema : Schema) (database : Database) (events : List (ℕ × StreamEvent)) (h : List Entry) (s : State) (streams : Streams) (n : ℕ) → ExpandsTimed (opening schema database) no_streams events h s streams → s.next ≤ n → streams n ≡ []
+pub not_fed_yet : (schema : Schema) (database : Database) (events : List (ℕ × StreamEvent)) (h : List Entry) (s : State) (streams : Streams) (n : ℕ) → ExpandsTimed (fed_state (opening schema database) no_streams) events h (fed_state s streams) → s.next ≤ n → streams n ≡ []
 not_fed_yet schema database events h s streams n x high = ((expands_all (opening schema database) n (opening schema database) no_streams events [] h s streams (at_first (opening schema database) no_streams n refl refl) x).keeps.to_come high).1

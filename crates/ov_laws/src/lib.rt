@@ -32,7 +32,7 @@ ghost use Rattle.ov_specs.specs.conversion.Carried.{carried};
 ghost use Rattle.ov_specs.specs.rows.Database.{Row, Database, same_database};
 ghost use Rattle.ov_specs.specs.rows.Lines.{LineKey};
 ghost use Rattle.ov_specs.specs.machine.History.{run, requests, closed_by};
-ghost use Rattle.ov_specs.specs.machine.Streams.{StreamEvent, Streams, ExpandsTimed};
+ghost use Rattle.ov_specs.specs.machine.Streams.{StreamEvent, Streams, ExpandsTimed, fed_state};
 ghost use Rattle.ov_specs.specs.values.Uuid.{Uuid, is_uuid};
 ghost use Rattle.ov_laws.specs.Asserting.{item_at, Asserts};
 ghost use Rattle.ov_laws.specs.Attempts.{attempts_of, most_attempts};
@@ -70,7 +70,7 @@ pub fn requests_are_asked_for()
     ensures { (before : State) (fed : Streams) (events : List (ℕ × StreamEvent))
         (history : List Entry) (s : State) (streams : Streams) (session : ℕ)
         → is_open before session ≡ false → fed session ≡ []
-        → ExpandsTimed before fed events history s streams
+        → ExpandsTimed (fed_state before fed) events history (fed_state s streams)
         → let messages = (asked (streams session)).messages in
         AreAskedFor (closed_by before history session) (requests history session) messages }
 {}

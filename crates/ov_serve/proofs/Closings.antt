@@ -6,9 +6,9 @@ use Rattle.ov_specs.specs.wire.Message.{Message}
 use Rattle.ov_specs.specs.machine.Machine.{State, Entry, Event, Open, Take, Close, Tick, Cause, InputEnded, ReadFault, WriteFault, Damaged, Overrun, Memory, Stepped, step, is_open}
 use Rattle.ov_specs.specs.machine.History.{closed_by, closing_cause}
 use Rattle.std.specs.Option.{option_or}
-use Rattle.ov_specs.specs.machine.Streams.{IsEntryAt, Feeds}
+use Rattle.ov_specs.specs.machine.Streams.{IsEntryAt, Feeds, delivered}
 use Rattle.ov_specs.proofs.laws.Histories.{Leads, leads_more, closed_by_more}
-use Rattle.ov_specs.proofs.laws.Turns.{Turn, turn_close, turn_take, turn_tick}
+use Rattle.ov_specs.proofs.laws.Turns.{Turn, turn_close, turn_take, turn_tick, session_after}
 use Rattle.ov_serve.specs.Progress.{stream_cause, IsShut, StandsAfter}
 
 -- a session that is open, and was not closed
@@ -46,7 +46,7 @@ stream_cause_is (Close session Memory) = inr refl
 
 module _ (at n : ℕ) (before : State) where
   -- an entry of the stream closed it
-  shut_by : (s : State) (h : List Entry) (e : Entry) (t : Stepped) (next : ℕ) (taken : List Message) (cause : Cause) → Leads before h s → step s e ≡ Some t → Turn n s e t.state false next taken (Some cause) → stream_cause e.event ≡ cause → closed_by before h n ≡ None
+  shut_by : (s : State) (h : List Entry) (e : Entry) (t : Stepped) (next : ℕ) (taken : List Message) (cause : Cause) → Leads before h s → step s e ≡ Some t → Turn n s e t.state (session_after false next taken (Some cause)) → stream_cause e.event ≡ cause → closed_by before h n ≡ None
       → StandsAfter n before (h ++ e ∷ []) t.state
   shut_by s h e t next taken cause leads stepped turn why none = stands_shut n before (h ++ e ∷ []) t.state (leads_more before h s e t leads stepped) turn.open_is (record {
     front = h;
@@ -74,7 +74,7 @@ module _ (at n : ℕ) (before : State) where
 
   -- the entries of a piece
   pub feeds_stand : (s : State) (h : List Entry) (messages : List Message) (damaged : Bool) (entries : List Entry) (new : State) → Leads before h s → is_open s n ≡ true → closed_by before h n ≡ None
-      → Feeds at s n messages damaged entries new → StandsAfter n before (h ++ entries) new
+      → Feeds (delivered at n) s messages damaged entries new → StandsAfter n before (h ++ entries) new
   feeds_stand s h [] false [] new leads there none same = subst (λ (v : State). StandsAfter n before (h ++ []) v) (sym same) (subst (λ (l : List Entry). StandsAfter n before l s) (sym (append-nil h)) (stands_open n before h s leads there none))
   feeds_stand s h [] true [] new leads there none f = absurd f
   feeds_stand s h [] false (e ∷ []) new leads there none (t, inl enters, same) = subst (λ (v : State). StandsAfter n before (h ++ e ∷ []) v) (sym same) (by_memory s h e t leads none enters)
@@ -90,11 +90,11 @@ module _ (at n : ℕ) (before : State) where
       elim (turn_take n s e t enters.step message enters.event) [
         | inl turn ↦
             let there' : is_open t.state n ≡ true = turn.open_is ∙ there in
-            let on' : Feeds at t.state n messages damaged entries new = MatchBool-at_true (Feeds at t.state n messages damaged entries new) ((entries ≡ []) × (new ≡ t.state)) there' on in
+            let on' : Feeds (delivered at n) t.state messages damaged entries new = MatchBool-at_true (Feeds (delivered at n) t.state messages damaged entries new) ((entries ≡ []) × (new ≡ t.state)) there' on in
             let none' : closed_by before (h ++ e ∷ []) n ≡ None = closed_by_more before h s e t n leads enters.step ∙ (ap (λ o. option_or o (closing_cause n s e.event t.state)) none ∙ turn.cause_is) in
             subst (λ (l : List Entry). StandsAfter n before l new) (append_assoc h (e ∷ []) entries) (feeds_stand t.state (h ++ e ∷ []) messages damaged entries new (leads_more before h s e t leads enters.step) there' none' on')
         | inr (was, turn) ↦
-            let last : (entries ≡ []) × (new ≡ t.state) = MatchBool-at_false (Feeds at t.state n messages damaged entries new) ((entries ≡ []) × (new ≡ t.state)) turn.open_is on in
+            let last : (entries ≡ []) × (new ≡ t.state) = MatchBool-at_false (Feeds (delivered at n) t.state messages damaged entries new) ((entries ≡ []) × (new ≡ t.state)) turn.open_is on in
             subst (λ (v : State). StandsAfter n before (h ++ e ∷ entries) v) (sym last.1) (subst (λ (l : List Entry). StandsAfter n before (h ++ e ∷ l) t.state) (sym last.0)
             (shut_by s h e t s.next (message ∷ []) Memory leads enters.step turn (ap stream_cause enters.event) none))
       ]

@@ -3,7 +3,7 @@ use Rattle.std.proofs.Common.{◌≡◌, ℕ, List, [], ◌∷◌, ◌++◌, Boo
 use Rattle.ov_specs.specs.wire.Message.{Message, asked}
 use Rattle.ov_specs.specs.machine.Machine as machine
 use Rattle.ov_specs.specs.machine.Machine.{State, is_open}
-use Rattle.ov_specs.specs.machine.Streams.{Feed, Passes, Streams, with_fed, Feeds, Expands, ExpandsTimed}
+use Rattle.ov_specs.specs.machine.Streams.{Feed, Passes, Streams, with_fed, Feeds, Expands, ExpandsTimed, delivered, fed_state}
 use Rattle.ov_specs.specs.values.Uuid.{Uuid}
 use Rattle.ov_specs.proofs.laws.Expanding.{one_after_another, one_event}
 use Rattle.ov_cut.specs.CutterState.{CutterState}
@@ -20,8 +20,8 @@ use Rattle.ov_serve.proofs.Passings.{fed_passes, tick_passes, passes_on}
 
 -- the streams of a piece that an open session is fed
 piece_expands : (at n : ℕ) (s new : State) (before : Streams) (stream piece : List ℕ) (messages : List Message) (entries : List machine.Entry) → is_open s n ≡ true → before n ≡ stream
-    → (asked (stream ++ piece)).messages ≡ (asked stream).messages ++ messages → Feeds at s n messages (asked (stream ++ piece)).damaged entries new
-    → Expands at s before (Feed n piece) entries new (with_fed before n piece)
+    → (asked (stream ++ piece)).messages ≡ (asked stream).messages ++ messages → Feeds (delivered at n) s messages (asked (stream ++ piece)).damaged entries new
+    → Expands at (fed_state s before) (Feed n piece) entries (fed_state new (with_fed before n piece))
 piece_expands at n s new before stream piece messages entries there is more feeds = rw there (messages, rw is more, rw is feeds, refl)
 
 -- a Tick if a transaction is due
@@ -57,7 +57,7 @@ led_to before entries streams = record { before = before; entries = entries; str
 pub record PieceMakes {K D : Type 0} (led : Past) (piece : FedPiece) (p : Piece) (a b : CoreState K D) (cutter : CutterState) : Type 0 where
   pub entries : List machine.Entry
   pub enters : Extends a entries b
-  pub expands : ExpandsTimed a.state led.streams (piece_events piece.session p) entries b.state (with_fed led.streams piece.session p.bytes)
+  pub expands : ExpandsTimed (fed_state a.state led.streams) (piece_events piece.session p) entries (fed_state b.state (with_fed led.streams piece.session p.bytes))
   pub passes : PassesWhereDue led.before (led.entries ++ entries)
   pub stands : StandsAfter piece.session led.before (led.entries ++ entries) b.state
   pub fed : is_open b.state piece.session ≡ true → IsFed (piece.stream ++ p.bytes) cutter
@@ -65,9 +65,9 @@ pub record PieceMakes {K D : Type 0} (led : Past) (piece : FedPiece) (p : Piece)
 module _ {K D : Type 0} (at n : ℕ) (before : State) (h : List machine.Entry) (streams : Streams) (stream piece : List ℕ) (a mid : CoreState K D) (cutter : CutterState)
     (there : is_open a.state n ≡ true) (is : streams n ≡ stream) (after : StandsAfter n before h a.state) (first : PassesWhereDue before h) (brings : EntersPiece at (fed_piece n stream piece) a mid cutter) where
   -- the piece alone
-  fed_expands : ExpandsTimed a.state streams ((at, Feed n piece) ∷ []) brings.entries mid.state (with_fed streams n piece)
+  fed_expands : ExpandsTimed (fed_state a.state streams) ((at, Feed n piece) ∷ []) brings.entries (fed_state mid.state (with_fed streams n piece))
   fed_expands =
-      one_event at a.state streams (Feed n piece) brings.entries mid.state (with_fed streams n piece)
+      one_event at (fed_state a.state streams) (Feed n piece) brings.entries (fed_state mid.state (with_fed streams n piece))
       (piece_expands at n a.state mid.state streams stream piece brings.messages brings.entries there is brings.more brings.feeds)
 
   fed_stands : StandsAfter n before (h ++ brings.entries) mid.state
@@ -90,8 +90,8 @@ module _ {K D : Type 0} (at n : ℕ) (before : State) (h : List machine.Entry) (
         entries = brings.entries ++ k.entry ∷ [];
         enters = enters_more a mid b brings.entries (k.entry ∷ []) brings.enters k.adds.enters;
         expands =
-            one_after_another a.state streams ((at, Feed n piece) ∷ []) brings.entries mid.state fed' ((at, Passes at) ∷ []) (k.entry ∷ []) b.state fed' fed_expands
-            (one_event at mid.state fed' (Passes at) (k.entry ∷ []) b.state fed' (k.entry, k.step, refl, k.is, sym k.adds.state, refl));
+            one_after_another (fed_state a.state streams) ((at, Feed n piece) ∷ []) brings.entries (fed_state mid.state fed') ((at, Passes at) ∷ []) (k.entry ∷ []) (fed_state b.state fed') fed_expands
+            (one_event at (fed_state mid.state fed') (Passes at) (k.entry ∷ []) (fed_state b.state fed') (k.entry, k.step, refl, k.is, sym k.adds.state, refl));
         passes =
             subst (λ (l : List machine.Entry). PassesWhereDue before l) (append_assoc h brings.entries (k.entry ∷ []))
             (passes_on before (h ++ brings.entries) (k.entry ∷ []) mid.state (fed_stands.sent, fed_stands.leads) piece_passes (tick_passes at mid.state k.entry k.step k.is_due k.is));

@@ -6,7 +6,7 @@ use Rattle.std.proofs.lemmas.Bool.{cases_Bool, MatchBool-at_true, MatchBool-at_f
 use Rattle.ov_specs.specs.wire.Message.{Message}
 use Rattle.ov_specs.specs.machine.Machine.{State, Entry, Take, Close, Tick, Cause, Memory, Damaged, Stepped, is_open, due}
 use Rattle.ov_specs.specs.machine.History.{run, then_sends}
-use Rattle.ov_specs.specs.machine.Streams.{IsEntryAt, Feeds}
+use Rattle.ov_specs.specs.machine.Streams.{IsEntryAt, Feeds, delivered}
 use Rattle.ov_specs.proofs.laws.Histories.{Leads}
 use Rattle.ov_core.specs.Passing.{has_come, is_due}
 use Rattle.ov_serve.specs.Serving.{PassesWhereDue}
@@ -28,7 +28,7 @@ not_by_close : (e : Entry) (n : ℕ) (cause : Cause) → e.event ≡ Close n cau
 not_by_close e n cause is tick = let no : Close n cause ≡ Tick = sym is ∙ tick in cc
 
 -- so none does among those of a piece
-feeds_pass : (at : ℕ) (s : State) (n : ℕ) (messages : List Message) (damaged : Bool) (entries : List Entry) (new : State) → Feeds at s n messages damaged entries new → NonePasses entries
+feeds_pass : (at : ℕ) (s : State) (n : ℕ) (messages : List Message) (damaged : Bool) (entries : List Entry) (new : State) → Feeds (delivered at n) s messages damaged entries new → NonePasses entries
 feeds_pass at s n [] false [] new f = tt
 feeds_pass at s n [] true [] new f = absurd f
 feeds_pass at s n [] false (e ∷ []) new (t, inl enters, same) = (not_by_close e n Memory enters.event, tt)
@@ -42,12 +42,12 @@ feeds_pass at s n (message ∷ messages) damaged (e ∷ entries) new (t, inl (en
 feeds_pass at s n (message ∷ messages) damaged (e ∷ entries) new (t, inr (enters, on)) = (
   not_by_take e n message enters.event,
   elim (cases_Bool (is_open t.state n)) [
-    | inl there ↦ feeds_pass at t.state n messages damaged entries new (MatchBool-at_true (Feeds at t.state n messages damaged entries new) ((entries ≡ []) × (new ≡ t.state)) there on)
-    | inr away ↦ subst NonePasses (sym (MatchBool-at_false (Feeds at t.state n messages damaged entries new) ((entries ≡ []) × (new ≡ t.state)) away on).0) tt
+    | inl there ↦ feeds_pass at t.state n messages damaged entries new (MatchBool-at_true (Feeds (delivered at n) t.state messages damaged entries new) ((entries ≡ []) × (new ≡ t.state)) there on)
+    | inr away ↦ subst NonePasses (sym (MatchBool-at_false (Feeds (delivered at n) t.state messages damaged entries new) ((entries ≡ []) × (new ≡ t.state)) away on).0) tt
   ],
 )
 
-pub fed_passes : (at : ℕ) (s : State) (n : ℕ) (messages : List Message) (damaged : Bool) (entries : List Entry) (new : State) → Feeds at s n messages damaged entries new → PassesWhereDue s entries
+pub fed_passes : (at : ℕ) (s : State) (n : ℕ) (messages : List Message) (damaged : Bool) (entries : List Entry) (new : State) → Feeds (delivered at n) s messages damaged entries new → PassesWhereDue s entries
 fed_passes at s n messages damaged entries new f = none_passes entries (feeds_pass at s n messages damaged entries new f) s
 
 -- what has come by one moment has come by a later one

@@ -11,7 +11,7 @@ use Rattle.ov_specs.specs.machine.Machine.{State, is_open, opening}
 use Rattle.ov_specs.specs.schema.SchemaTypes.{Schema}
 use Rattle.ov_specs.specs.rows.Database.{Database}
 use Rattle.ov_specs.specs.machine.History.{joined, frames_to, closed_by}
-use Rattle.ov_specs.specs.machine.Streams.{StreamEvent, Opens, no_streams, with_fed, ExpandsTimed}
+use Rattle.ov_specs.specs.machine.Streams.{StreamEvent, Opens, no_streams, with_fed, ExpandsTimed, fed_state}
 use Rattle.ov_specs.proofs.laws.Expanding.{one_after_another}
 use Rattle.ov_specs.proofs.laws.Histories.{closed_by_append}
 use Rattle.ov_specs.proofs.laws.Turns.{turn_close}
@@ -96,7 +96,7 @@ module _ {K D C : Type 0} (tells : C → ℕ → C → Type 0) (n : ℕ) (old : 
     extends = goes_on_handing n old.core a.core b done.entries done.frames sends.frames done.extends sends.extends;
     read = done.read;
     written = subst (λ (bytes : List ℕ). WritesOf is_whole bytes old.writer.written writer.written) (sym (joined-append done.frames sends.frames)) (writes_on is_whole (joined done.frames) (joined sends.frames) old.writer.written a.writer.written writer.written done.written sends.written);
-    expands = subst (λ (s : State). ExpandsTimed old.core.state no_streams (events_of n done.pieces) done.entries s done.streams) (sym same) done.expands;
+    expands = subst (λ (s : State). ExpandsTimed (fed_state old.core.state no_streams) (events_of n done.pieces) done.entries (fed_state s done.streams)) (sym same) done.expands;
     stream = done.stream;
     ticks = done.ticks;
     sizes = done.sizes;
@@ -131,8 +131,8 @@ module _ {K D C : Type 0} (tells : C → ℕ → C → Type 0) (n : ℕ) (old : 
           read = read ∙ (ap (λ (bytes : List ℕ). bytes ++ piece) done.read ∙ (append_assoc old.reader.read (bytes_of done.pieces) piece ∙ ap (λ (bytes : List ℕ). old.reader.read ++ bytes) (sym (bytes_of-more done.pieces p))));
           written = done.written;
           expands =
-              subst (λ (l : List (ℕ × StreamEvent)). ExpandsTimed old.core.state no_streams l (done.entries ++ made.entries) b.state (with_fed done.streams n piece)) (sym (events_of-more n done.pieces p))
-              (one_after_another old.core.state no_streams (events_of n done.pieces) done.entries a.core.state done.streams (piece_events n p) made.entries b.state (with_fed done.streams n piece) done.expands made.expands);
+              subst (λ (l : List (ℕ × StreamEvent)). ExpandsTimed (fed_state old.core.state no_streams) l (done.entries ++ made.entries) (fed_state b.state (with_fed done.streams n piece))) (sym (events_of-more n done.pieces p))
+              (one_after_another (fed_state old.core.state no_streams) (events_of n done.pieces) done.entries (fed_state a.core.state done.streams) (piece_events n p) made.entries (fed_state b.state (with_fed done.streams n piece)) done.expands made.expands);
           stream = fed_own done.streams n piece ∙ (ap (λ (bytes : List ℕ). bytes ++ piece) done.stream ∙ sym (bytes_of-more done.pieces p));
           ticks = made.passes;
           sizes = All-push (λ (q : Piece). length q.bytes ≤ most_piece_bytes) done.pieces p done.sizes short;

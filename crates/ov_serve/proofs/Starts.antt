@@ -9,7 +9,7 @@ use Rattle.ov_specs.specs.machine.Machine as machine
 use Rattle.ov_specs.specs.machine.Machine.{is_open}
 use Rattle.ov_specs.specs.values.Uuid.{Uuid}
 use Rattle.ov_specs.specs.machine.Streams as streams
-use Rattle.ov_specs.specs.machine.Streams.{Opens, no_streams, Expands}
+use Rattle.ov_specs.specs.machine.Streams.{Opens, no_streams, Expands, fed_state}
 use Rattle.ov_specs.proofs.laws.Expanding.{one_event}
 use Rattle.ov_specs.proofs.laws.Histories.{leads_none, leads_more, closed_by_more}
 use Rattle.ov_specs.proofs.laws.Turns.{turn_open}
@@ -43,7 +43,7 @@ pub serving_opened : {K D C : Type 0} (draws : D → Uuid → D → Type 0) (tel
 serving_opened draws tells session old new cutter stands entered =
     let t : machine.Stepped = record { state = new.state; sent = entered.moves.sent } in
     let enters : streams.IsEntryAt 0 old.core.state machine.Open entered.entry t = record { event = entered.tells.0; moment = entered.moment ∙ sym (zero-max old.core.state.moment); step = entered.moves.stepped } in
-    let expands : Expands 0 old.core.state no_streams Opens (entered.entry ∷ []) new.state no_streams = (entered.entry, t, refl, enters, refl, refl) in
+    let expands : Expands 0 (fed_state old.core.state no_streams) Opens (entered.entry ∷ []) (fed_state new.state no_streams) = (entered.entry, t, refl, enters, refl, refl) in
     let turn = turn_open session.serial old.core.state entered.entry t entered.moves.stepped entered.tells.0 in
     let there : is_open new.state session.serial ≡ true = turn.open_is ∙ rw (eq-eqb old.core.state.next session.serial (sym entered.tells.1)) (or_truth (is_open old.core.state session.serial)) in
     record {
@@ -55,7 +55,7 @@ serving_opened draws tells session old new cutter stands entered =
         extends = goes_by_entries session.serial old.core new (entered.entry ∷ []) entered.moves.follows;
         read = sym (append-nil old.reader.read);
         written = sym (append-nil old.writer.written);
-        expands = one_event 0 old.core.state no_streams Opens (entered.entry ∷ []) new.state no_streams expands;
+        expands = one_event 0 (fed_state old.core.state no_streams) Opens (entered.entry ∷ []) (fed_state new.state no_streams) expands;
         stream = refl;
         ticks = (λ is. let no : machine.Open ≡ machine.Tick = sym entered.tells.0 ∙ is in cc, λ u stepped. tt);
         sizes = All-nil (λ (p : Piece). length p.bytes ≤ most_piece_bytes);

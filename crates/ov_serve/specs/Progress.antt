@@ -4,7 +4,7 @@ use Rattle.ov_specs.specs.machine.Machine as machine
 use Rattle.ov_specs.specs.machine.Machine.{State, Sent, is_open}
 use Rattle.ov_specs.specs.machine.History.{run, joined, closed_by}
 use Rattle.ov_specs.specs.machine.Streams as streams
-use Rattle.ov_specs.specs.machine.Streams.{Streams, no_streams, ExpandsTimed}
+use Rattle.ov_specs.specs.machine.Streams.{Streams, no_streams, ExpandsTimed, fed_state}
 use Rattle.ov_cut.specs.CutterState.{CutterState}
 use Rattle.ov_outbox.specs.Frames.{waiting_for}
 use Rattle.ov_core.specs.Following.{CoreState}
@@ -92,7 +92,7 @@ pub record ServedSoFar {K D C : Type 0} (tells : C → ℕ → C → Type 0) (n 
   pub extends : ExtendsHanding n old.core entries frames new.core
   pub read : new.reader.read ≡ old.reader.read ++ bytes_of pieces
   pub written : WritesOf is_whole (joined frames) old.writer.written new.writer.written
-  pub expands : ExpandsTimed old.core.state no_streams (events_of n pieces) entries new.core.state streams
+  pub expands : ExpandsTimed (fed_state old.core.state no_streams) (events_of n pieces) entries (fed_state new.core.state streams)
   pub stream : streams n ≡ bytes_of pieces
   pub ticks : PassesWhereDue old.core.state entries
   pub sizes : ArePieces pieces

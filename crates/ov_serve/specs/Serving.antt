@@ -8,7 +8,7 @@ use Rattle.ov_specs.specs.schema.SchemaTypes.{Schema}
 use Rattle.ov_specs.specs.rows.Database.{Database}
 use Rattle.ov_specs.specs.machine.History.{run, joined, out, closed_by}
 use Rattle.ov_specs.specs.machine.Streams as streams
-use Rattle.ov_specs.specs.machine.Streams.{StreamEvent, Opens, Feed, Passes, Streams, no_streams, ExpandsTimed}
+use Rattle.ov_specs.specs.machine.Streams.{StreamEvent, Opens, Feed, Passes, Streams, no_streams, ExpandsTimed, fed_state}
 use Rattle.ov_history.specs.declared.event.Cause.{Cause}
 use Rattle.ov_history.specs.declared.event.Cause.TheVariants.{InputEnded, ReadFault, WriteFault, Damaged, Overrun, Memory}
 use Rattle.ov_outbox.specs.Frames.{waiting_for}
@@ -154,7 +154,7 @@ pub record Served {K D C : Type 0} (tells : C → ℕ → C → Type 0) (n : ℕ
   pub mid : State
   pub streams : Streams
   pub parts : entries ≡ front ++ last
-  pub expands : ExpandsTimed old.core.state no_streams (events_of n pieces) front mid streams
+  pub expands : ExpandsTimed (fed_state old.core.state no_streams) (events_of n pieces) front (fed_state mid streams)
   pub stream : streams n ≡ bytes_of pieces
   pub ticks : PassesWhereDue old.core.state front
   pub closes : ClosesFor n cause mid last new.core.state

@@ -8,7 +8,7 @@ use Rattle.ov_specs.specs.wire.Message.{Message, Asked, asked, asked_of, with_as
 use Rattle.ov_specs.specs.machine.Machine as machine
 use Rattle.ov_specs.specs.machine.Machine.{State, Entry, Stepped, is_open}
 use Rattle.ov_specs.specs.machine.Streams as streams
-use Rattle.ov_specs.specs.machine.Streams.{Feeds}
+use Rattle.ov_specs.specs.machine.Streams.{Feeds, delivered}
 use Rattle.ov_specs.proofs.laws.Turns.{turn_close}
 use Rattle.ov_cut.specs.declared.fault.CutFault.{CutFault}
 use Rattle.ov_cut.specs.declared.fault.CutFault.TheVariants as fault
@@ -44,7 +44,7 @@ shut_by n at s cause e t new enters same there =
     false≢true (sym ((turn_close n s e t enters.step cause enters.event).open_is) ∙ (ap (λ v. is_open v n) (sym same) ∙ there))
 
 -- if a stream is damaged, its session does not stay open
-damage_closes : (at : ℕ) (s : State) (n : ℕ) (ms : List Message) (entries : List Entry) (new : State) → Feeds at s n ms true entries new → is_open new n ≡ true → ⊥
+damage_closes : (at : ℕ) (s : State) (n : ℕ) (ms : List Message) (entries : List Entry) (new : State) → Feeds (delivered at n) s ms true entries new → is_open new n ≡ true → ⊥
 damage_closes at s n [] [] new f there = f
 damage_closes at s n [] (e ∷ []) new (t, inl enters, same) there = shut_by n at s machine.Memory e t new enters same there
 damage_closes at s n [] (e ∷ []) new (t, inr (bad, enters), same) there = shut_by n at s machine.Damaged e t new enters same there
@@ -52,10 +52,10 @@ damage_closes at s n [] (e ∷ f ∷ entries) new h there = h
 damage_closes at s n (m ∷ ms) [] new h there = h
 damage_closes at s n (m ∷ ms) (e ∷ entries) new (t, inl (enters, none, same)) there = shut_by n at s machine.Memory e t new enters same there
 damage_closes at s n (m ∷ ms) (e ∷ entries) new (t, inr (enters, on)) there =
-    closed_test (is_open t.state n) (Feeds at t.state n ms true entries new) ((entries ≡ []) × (new ≡ t.state)) on (λ _ more. damage_closes at t.state n ms entries new more there)
+    closed_test (is_open t.state n) (Feeds (delivered at n) t.state ms true entries new) ((entries ≡ []) × (new ≡ t.state)) on (λ _ more. damage_closes at t.state n ms entries new more there)
     (λ shut last. false≢true (sym shut ∙ (ap (λ v. is_open v n) (sym last.1) ∙ there)))
 
-undamaged : (at : ℕ) (s : State) (n : ℕ) (ms : List Message) (d : Bool) (entries : List Entry) (new : State) → Feeds at s n ms d entries new → is_open new n ≡ true → d ≡ false
+undamaged : (at : ℕ) (s : State) (n : ℕ) (ms : List Message) (d : Bool) (entries : List Entry) (new : State) → Feeds (delivered at n) s ms d entries new → is_open new n ≡ true → d ≡ false
 undamaged at s n ms true entries new f there = absurd (damage_closes at s n ms entries new f there)
 undamaged at s n ms false entries new f there = refl
 
@@ -89,7 +89,7 @@ module _ {K D : Type 0} (at n : ℕ) (stream piece : List ℕ) (texts : List (Li
     messages = (asked_of (texts ++ others) e).messages;
     more = ap (λ (a : Asked). a.messages) is;
     entries = entries;
-    feeds = subst (λ (d : Bool). Feeds at old.state n (asked_of (texts ++ others) e).messages d entries new.state) (sym (ap (λ (a : Asked). a.damaged) is)) feeds;
+    feeds = subst (λ (d : Bool). Feeds (delivered at n) old.state (asked_of (texts ++ others) e).messages d entries new.state) (sym (ap (λ (a : Asked). a.damaged) is)) feeds;
     enters = enters;
     goes_on = on;
   }

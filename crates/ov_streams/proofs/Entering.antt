@@ -8,7 +8,7 @@ use Rattle.ov_specs.specs.machine.Machine as machine
 use Rattle.ov_specs.specs.machine.Machine.{State, Entry, Stepped, is_open}
 use Rattle.ov_specs.specs.values.Uuid.{Uuid}
 use Rattle.ov_specs.specs.machine.Streams as streams
-use Rattle.ov_specs.specs.machine.Streams.{Feeds}
+use Rattle.ov_specs.specs.machine.Streams.{Feeds, delivered}
 use Rattle.ov_specs.proofs.laws.Turns.{turn_close}
 use Rattle.ov_history.specs.declared.event.Stepped.{Stepped as Reply}
 use Rattle.ov_history.specs.declared.event.Stepped.TheVariants as answer
@@ -78,7 +78,7 @@ wanted_memory at n text old new s = record { entry = s.entry; step = s.step; add
 -- ---- what comes of one text, before others
 
 -- a failed allocation closes the session, whatever was to come
-pub by_memory : (at : ℕ) (s : State) (n : ℕ) (ms : List Message) (d : Bool) (e : Entry) (t : Stepped) → streams.IsEntryAt at s (machine.Close n machine.Memory) e t → Feeds at s n ms d (e ∷ []) t.state
+pub by_memory : (at : ℕ) (s : State) (n : ℕ) (ms : List Message) (d : Bool) (e : Entry) (t : Stepped) → streams.IsEntryAt at s (machine.Close n machine.Memory) e t → Feeds (delivered at n) s ms d (e ∷ []) t.state
 by_memory at s n [] true e t h = (t, inl h, refl)
 by_memory at s n [] false e t h = (t, inl h, refl)
 by_memory at s n (m ∷ ms) d e t h = (t, inl (h, refl, refl))
@@ -88,7 +88,7 @@ at_test b c P Q e h = subst (λ (x : Bool). MatchBool x P Q) (sym e) h
 
 -- the feeds of what is asked
 abbrev pub FeedsAsked : ℕ → State → ℕ → Asked → List Entry → State → Type 0
-FeedsAsked at s n a entries new = Feeds at s n a.messages a.damaged entries new
+FeedsAsked at s n a entries new = Feeds (delivered at n) s a.messages a.damaged entries new
 
 feeds_as : (at : ℕ) (s : State) (n : ℕ) (a b : Asked) (entries : List Entry) (new : State) → a ≡ b → FeedsAsked at s n b entries new → FeedsAsked at s n a entries new
 feeds_as at s n a b entries new e h = subst (λ (x : Asked). FeedsAsked at s n x entries new) (sym e) h

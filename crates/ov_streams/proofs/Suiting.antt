@@ -15,7 +15,7 @@ use Rattle.ov_specs.specs.values.Uuid.{Uuid}
 use Rattle.ov_specs.specs.schema.SchemaTypes.{Schema}
 use Rattle.ov_specs.specs.rows.Database.{Database}
 use Rattle.ov_specs.specs.machine.Streams as streams
-use Rattle.ov_specs.specs.machine.Streams.{Streams, no_streams, with_fed, Feeds, Expands}
+use Rattle.ov_specs.specs.machine.Streams.{Streams, no_streams, with_fed, Feeds, Expands, delivered, fed_state}
 use Rattle.ov_specs.proofs.laws.Expanding.{one_more}
 use Rattle.ov_specs.proofs.laws.Turns.{MayClose, turn_open, turn_tick, turn_close_other, turn_take_other}
 use Rattle.ov_laws.proofs.Requests.{asked_nothing, not_fed_yet}
@@ -37,11 +37,11 @@ max_zero m = omega arith
 
 -- one event more, by its entries
 suits_more : {K D : Type 0} (schema : Schema) (database : Database) (list : List streams.StreamEvent) (h : List Entry) (given : ℕ → List (List ℕ)) (old new : StreamsState K D) (s : FollowsEvents schema database list h given old) (e : streams.StreamEvent) (k : List Entry) (after : Streams)
-    → Extends old.core k new.core → Expands 0 old.core.state s.fed e k new.core.state after → ((n : ℕ) → is_open new.core.state n ≡ true → HasCutter n (after n) new.cutters) → FollowsEvents schema database (list ++ e ∷ []) (h ++ k) given new
+    → Extends old.core k new.core → Expands 0 (fed_state old.core.state s.fed) e k (fed_state new.core.state after) → ((n : ℕ) → is_open new.core.state n ≡ true → HasCutter n (after n) new.cutters) → FollowsEvents schema database (list ++ e ∷ []) (h ++ k) given new
 suits_more schema database list h given old new s e k after enters x cutters = record {
   fed = after;
   follows = enters.follows (opening schema database) h given s.follows;
-  expands = one_more (opening schema database) no_streams list h old.core.state s.fed e k new.core.state after s.expands x;
+  expands = one_more (fed_state (opening schema database) no_streams) list h (fed_state old.core.state s.fed) e k (fed_state new.core.state after) s.expands x;
   cutters = cutters;
 }
 
@@ -238,7 +238,7 @@ shut_aside : (at n m : ℕ) → m ≢ n → (s : State) (cause : machine.Cause) 
 shut_aside at n m ne s cause e t new enters same there = sym (turn_close_other n s e t enters.step m cause ne enters.event).open_is ∙ (ap (λ v. is_open v n) (sym same) ∙ there)
 
 -- another session is open after the entries of a piece only where it was before
-others_open : (at n m : ℕ) → m ≢ n → (s : State) (ms : List Message) (d : Bool) (entries : List Entry) (new : State) → Feeds at s m ms d entries new → is_open new n ≡ true → is_open s n ≡ true
+others_open : (at n m : ℕ) → m ≢ n → (s : State) (ms : List Message) (d : Bool) (entries : List Entry) (new : State) → Feeds (delivered at m) s ms d entries new → is_open new n ≡ true → is_open s n ≡ true
 others_open at n m ne s [] false [] new f there = ap (λ v. is_open v n) (sym f) ∙ there
 others_open at n m ne s [] true [] new f there = absurd f
 others_open at n m ne s [] false (e ∷ []) new (t, inl enters, same) there = shut_aside at n m ne s machine.Memory e t new enters same there
@@ -251,8 +251,8 @@ others_open at n m ne s (message ∷ ms) d [] new h there = absurd h
 others_open at n m ne s (message ∷ ms) d (e ∷ entries) new (t, inl (enters, none, same)) there = shut_aside at n m ne s machine.Memory e t new enters same there
 others_open at n m ne s (message ∷ ms) d (e ∷ entries) new (t, inr (enters, on)) there =
     open_before n s e t [] (turn_take_other n s e t enters.step m message ne enters.event) (elim (cases_Bool (is_open t.state m)) [
-      | inl still ↦ others_open at n m ne t.state ms d entries new (MatchBool-at_true (Feeds at t.state m ms d entries new) ((entries ≡ []) × (new ≡ t.state)) still on) there
-      | inr shut ↦ ap (λ v. is_open v n) (sym (MatchBool-at_false (Feeds at t.state m ms d entries new) ((entries ≡ []) × (new ≡ t.state)) shut on).1) ∙ there
+      | inl still ↦ others_open at n m ne t.state ms d entries new (MatchBool-at_true (Feeds (delivered at m) t.state ms d entries new) ((entries ≡ []) × (new ≡ t.state)) still on) there
+      | inr shut ↦ ap (λ v. is_open v n) (sym (MatchBool-at_false (Feeds (delivered at m) t.state ms d entries new) ((entries ≡ []) × (new ≡ t.state)) shut on).1) ∙ there
     ])
 
 pub fed_own : (x : Streams) (n : ℕ) (bytes : List ℕ) → with_fed x n bytes n ≡ x n ++ bytes

@@ -4,7 +4,7 @@ use Rattle.ov_specs.specs.wire.Message.{Message, message_in, asked_of}
 use Rattle.ov_specs.specs.machine.Machine as machine
 use Rattle.ov_specs.specs.machine.Machine.{State, Entry, Stepped, is_open}
 use Rattle.ov_specs.specs.machine.Streams as streams
-use Rattle.ov_specs.specs.machine.Streams.{Feeds}
+use Rattle.ov_specs.specs.machine.Streams.{Feeds, delivered}
 use Rattle.ov_cut.specs.declared.fault.CutFault.{CutFault}
 use Rattle.ov_cut.specs.declared.fault.CutFault.TheVariants as fault
 use Rattle.ov_core.specs.Following.{CoreState, Extends}
@@ -47,10 +47,10 @@ pub record EntersTexts {K D : Type 0} (at n : ℕ) (texts : List (List ℕ)) (ol
   pub entries : List Entry
   pub enters : Extends old entries new
   pub goes_on : is_open new.state n ≡ true → (others : List (List ℕ)) (damaged : Bool) (more : List Entry) (last : State)
-      → Feeds at new.state n (asked_of others damaged).messages (asked_of others damaged).damaged more last
-      → Feeds at old.state n (asked_of (texts ++ others) damaged).messages (asked_of (texts ++ others) damaged).damaged (entries ++ more) last
+      → Feeds (delivered at n) new.state (asked_of others damaged).messages (asked_of others damaged).damaged more last
+      → Feeds (delivered at n) old.state (asked_of (texts ++ others) damaged).messages (asked_of (texts ++ others) damaged).damaged (entries ++ more) last
   pub ends : is_open new.state n ≡ false → (others : List (List ℕ)) (damaged : Bool)
-      → Feeds at old.state n (asked_of (texts ++ others) damaged).messages (asked_of (texts ++ others) damaged).damaged entries new.state
+      → Feeds (delivered at n) old.state (asked_of (texts ++ others) damaged).messages (asked_of (texts ++ others) damaged).damaged entries new.state
 
 -- why a session is closed if its stream can't be cut
 abbrev pub cause_of_fault : CutFault → machine.Cause

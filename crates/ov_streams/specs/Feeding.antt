@@ -2,7 +2,7 @@
 use Rattle.std.specs.Prelude.{◌≡◌, ℕ, ◌++◌, List, true, false}
 use Rattle.ov_specs.specs.wire.Message.{Message, asked}
 use Rattle.ov_specs.specs.machine.Machine.{Entry, is_open}
-use Rattle.ov_specs.specs.machine.Streams.{Feeds}
+use Rattle.ov_specs.specs.machine.Streams.{Feeds, delivered}
 use Rattle.ov_cut.specs.CutterState.{CutterState, StandsFor}
 use Rattle.ov_core.specs.Following.{CoreState, Extends}
 
@@ -28,6 +28,6 @@ pub record EntersPiece {K D : Type 0} (at : ℕ) (piece : FedPiece) (old new : C
   pub messages : List Message
   pub more : (asked (piece.stream ++ piece.bytes)).messages ≡ (asked piece.stream).messages ++ messages
   pub entries : List Entry
-  pub feeds : Feeds at old.state piece.session messages (asked (piece.stream ++ piece.bytes)).damaged entries new.state
+  pub feeds : Feeds (delivered at piece.session) old.state messages (asked (piece.stream ++ piece.bytes)).damaged entries new.state
   pub enters : Extends old entries new
   pub goes_on : is_open new.state piece.session ≡ true → IsFed (piece.stream ++ piece.bytes) cutter

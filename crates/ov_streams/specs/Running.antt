@@ -9,7 +9,7 @@ use Rattle.ov_specs.specs.machine.Machine.{Entry, State, opening, is_open}
 use Rattle.ov_specs.specs.schema.SchemaTypes.{Schema}
 use Rattle.ov_specs.specs.rows.Database.{Database}
 use Rattle.ov_specs.specs.machine.Streams as streams
-use Rattle.ov_specs.specs.machine.Streams.{Streams, no_streams, ExpandsAll}
+use Rattle.ov_specs.specs.machine.Streams.{Streams, no_streams, ExpandsAll, fed_state}
 use Rattle.ov_history.specs.declared.event.StepFault.{StepFault}
 use Rattle.ov_core.specs.Following.{CoreState, Follows, CountsWork}
 use Rattle.ov_core.specs.Stepping.{RefusesStep}
@@ -46,7 +46,7 @@ HasCutter n stream cutters = IsSomeAnd (cutter_of n cutters) (IsFed stream)
 pub record FollowsEvents {K D : Type 0} (schema : Schema) (database : Database) (list : List streams.StreamEvent) (history : List Entry) (given : ℕ → List (List ℕ)) (now : StreamsState K D) : Type 0 where
   pub fed : Streams
   pub follows : Follows (opening schema database) history given now.core
-  pub expands : ExpandsAll (opening schema database) no_streams list history now.core.state fed
+  pub expands : ExpandsAll (fed_state (opening schema database) no_streams) list history (fed_state now.core.state fed)
   pub cutters : (n : ℕ) → is_open now.core.state n ≡ true → HasCutter n (fed n) now.cutters
 
 -- Whatever list the streams suited before, they suit it with these events appended, and the core has counted the work on the

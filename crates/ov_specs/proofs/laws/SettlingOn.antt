@@ -155,26 +155,37 @@ module _ (s : State) (number : ℕ) (attempts : List Attempt) (own : Listed) (o 
 
 -- ---- as a loop keeps it
 
+-- where settling has come to: the state, what was sent so far, the number of the next attempt, and those still to be tried
+pub record SettlingPoint : Type 0 where
+  pub state : State
+  pub sent : List Sent
+  pub number : ℕ
+  pub waiting : List Outstanding
+
+abbrev pub at_point : State → List Sent → ℕ → List Outstanding → SettlingPoint
+at_point state sent number waiting = record { state = state; sent = sent; number = number; waiting = waiting }
+
 -- Settling from a state, with what was listed so far and whatever is listed of the attempts from this one on, comes to what
 -- was sent so far and the rest of settling from here.
-abbrev pub Reaches : State → ℕ → List Attempt → State → List Sent → ℕ → List Outstanding → Type 0
-Reaches from first made s sent number waiting =
-    (more : List Attempt) → AreFrom number more → settle from first (made ++ more) ≡ option_map (passes_after sent) (settles_on s number more waiting)
+abbrev pub Reaches : State → ℕ → List Attempt → SettlingPoint → Type 0
+Reaches from first made here =
+    (more : List Attempt) → AreFrom here.number more
+    → settle from first (made ++ more) ≡ option_map (passes_after here.sent) (settles_on here.state here.number more here.waiting)
 
 -- before the first try
-pub reaches_first : (s : State) (number : ℕ) → Reaches s number [] (emptied s) [] number s.outstanding
+pub reaches_first : (s : State) (number : ℕ) → Reaches s number [] (at_point (emptied s) [] number s.outstanding)
 reaches_first s number more later = settle-begins s number more ∙ sym (past-nothing (settles_on (emptied s) number more s.outstanding))
 
 module _ (from : State) (first : ℕ) (made : List Attempt) (s : State) (sent : List Sent) (number : ℕ) where
   -- after the last try
-  pub reaches_last : Reaches from first made s sent number [] → settle from first made ≡ Some (record { tried = record { stepped = record { state = s; sent = sent }; others = [] }; next = number; has_changed = false })
+  pub reaches_last : Reaches from first made (at_point s sent number []) → settle from first made ≡ Some (record { tried = record { stepped = record { state = s; sent = sent }; others = [] }; next = number; has_changed = false })
   reaches_last reaches =
       ap (settle from first) (sym (append-nil made)) ∙ (reaches [] refl
       ∙ ap (λ (v : List Sent). Some (record { tried = record { stepped = record { state = s; sent = v }; others = [] }; next = number; has_changed = false })) (append-nil sent))
 
-  module _ (o : Outstanding) (waiting : List Outstanding) (reaches : Reaches from first made s sent number (o ∷ waiting)) where
+  module _ (o : Outstanding) (waiting : List Outstanding) (reaches : Reaches from first made (at_point s sent number (o ∷ waiting))) where
     -- one whose session was closed is not tried
-    pub reaches_skip : is_open s o.session ≡ false → Reaches from first made s sent number waiting
+    pub reaches_skip : is_open s o.session ≡ false → Reaches from first made (at_point s sent number waiting)
     reaches_skip away more later = reaches more later ∙ ap (λ r. option_map (passes_after sent) (option_and_then settles_again r)) (pass-skips s number more o waiting away)
 
     module _ (outcome : Option Outcome) (t : Stepped) (there : is_open s o.session ≡ true) (again : tries_again s o outcome ≡ Some t) where
@@ -185,13 +196,13 @@ module _ (from : State) (first : ℕ) (made : List Attempt) (s : State) (sent : 
       own more = record { outcome = outcome; others = more }
 
       -- one that changed nothing
-      pub reaches_next : is_kept outcome ≡ false → Reaches from first (made ++ made_by number outcome) t.state (sent ++ t.sent) (number + 1) waiting
+      pub reaches_next : is_kept outcome ≡ false → Reaches from first (made ++ made_by number outcome) (at_point t.state (sent ++ t.sent) (number + 1) waiting)
       reaches_next not_kept more later =
           before more later ∙ (ap (option_map (passes_after sent)) (on-tries s number (made_by number outcome ++ more) (own more) o waiting t there (listed-made number outcome more later) again not_kept)
           ∙ after-after sent t.sent (settles_on t.state (number + 1) more waiting))
 
       -- one that changed the database
-      pub reaches_again : is_kept outcome ≡ true → Reaches from first (made ++ made_by number outcome) (emptied (waits_after t.state waiting)) (sent ++ t.sent) (number + 1) (waits_after t.state waiting).outstanding
+      pub reaches_again : is_kept outcome ≡ true → Reaches from first (made ++ made_by number outcome) (at_point (emptied (waits_after t.state waiting)) (sent ++ t.sent) (number + 1) (waits_after t.state waiting).outstanding)
       reaches_again kept more later =
           before more later ∙ (ap (option_map (passes_after sent)) (on-changes s number (made_by number outcome ++ more) (own more) o waiting t there (listed-made number outcome more later) again kept)
           ∙ (after-after sent t.sent (settle (waits_after t.state waiting) (number + 1) more)

@@ -88,17 +88,27 @@ now s e = record s { moment = e.choice.moment }
 pub stepped : (s : State) (e : Entry) (t : Stepped) (what : Event) → e.event ≡ what → step s e ≡ Some t → happens (now s e) e.choice what ≡ Some t
 stepped s e t what is h = when_is (leb s.moment e.choice.moment) (happens (now s e) e.choice what) t (sym (ap (λ v. when (leb s.moment e.choice.moment) (happens (now s e) e.choice v)) is) ∙ h)
 
--- what an entry makes of a session: whether it is then open, the serial of the next one, what was taken of it, and why it
--- was closed
-pub record Turn (n : ℕ) (s : State) (e : Entry) (t : State) (open' : Bool) (next : ℕ) (taken : List Message) (cause : Option Cause) : Type 0 where
-  pub open_is : is_open t n ≡ open'
-  pub next_is : t.next ≡ next
-  pub taken_is : taken_by n e.event ≡ taken
-  pub cause_is : closing_cause n s e.event t ≡ cause
+-- what is seen of a session after an entry: whether it is open, the serial of the next one, what the entry took of it, and
+-- why the entry closed it
+pub record SessionAfter : Type 0 where
+  pub goes_on : Bool
+  pub next : ℕ
+  pub taken : List Message
+  pub cause : Option Cause
+
+abbrev pub session_after : Bool → ℕ → List Message → Option Cause → SessionAfter
+session_after goes_on next taken cause = record { goes_on = goes_on; next = next; taken = taken; cause = cause }
+
+-- an entry makes this of a session
+pub record Turn (n : ℕ) (s : State) (e : Entry) (t : State) (after : SessionAfter) : Type 0 where
+  pub open_is : is_open t n ≡ after.goes_on
+  pub next_is : t.next ≡ after.next
+  pub taken_is : taken_by n e.event ≡ after.taken
+  pub cause_is : closing_cause n s e.event t ≡ after.cause
 
 module _ (n : ℕ) (s : State) (e : Entry) (t : Stepped) (h : step s e ≡ Some t) where
   -- a session opens
-  pub turn_open : e.event ≡ Open → Turn n s e t.state (is_open s n || eqb s.next n) (s.next + 1) [] None
+  pub turn_open : e.event ≡ Open → Turn n s e t.state (session_after (is_open s n || eqb s.next n) (s.next + 1) [] None)
   turn_open is =
       let k = stepped s e t Open is h in
       let x : Stepped = record { state = with_next_session (now s e); sent = [] } in
@@ -121,7 +131,7 @@ module _ (n : ℕ) (s : State) (e : Entry) (t : Stepped) (h : step s e ≡ Some 
       (and_parts (is_without_choice e.choice) (is_open s m) (when_suits (is_without_choice e.choice && is_open s m) (Some (closed (now s e) m)) t (stepped s e t (Close m cause) is h))).1
 
   -- the session is closed
-  pub turn_close : (cause : Cause) → e.event ≡ Close n cause → Turn n s e t.state false s.next [] (Some cause)
+  pub turn_close : (cause : Cause) → e.event ≡ Close n cause → Turn n s e t.state (session_after false s.next [] (Some cause))
   turn_close cause is =
       let same : closed (now s e) n ≡ t = after_close n cause is in
       let own : eqb n n ≡ true = eq-eqb n n refl in
@@ -134,7 +144,7 @@ module _ (n : ℕ) (s : State) (e : Entry) (t : Stepped) (h : step s e ≡ Some 
       }
 
   -- another session is closed
-  pub turn_close_other : (m : ℕ) (cause : Cause) → m ≢ n → e.event ≡ Close m cause → Turn n s e t.state (is_open s n) s.next [] None
+  pub turn_close_other : (m : ℕ) (cause : Cause) → m ≢ n → e.event ≡ Close m cause → Turn n s e t.state (session_after (is_open s n) s.next [] None)
   turn_close_other m cause ne is =
       let same : closed (now s e) m ≡ t = after_close m cause is in
       let open_is : is_open t.state n ≡ is_open s n = ap (λ (v : Stepped). is_open v.state n) (sym same) ∙ others_left n m s.sessions ne in
@@ -150,7 +160,9 @@ module _ (n : ℕ) (s : State) (e : Entry) (t : Stepped) (h : step s e ≡ Some 
 -- What an entry that takes these messages of a session makes of it: it goes on, or it was open and is closed because an
 -- allocation failed.
 abbrev pub MayClose : ℕ → State → Entry → Stepped → List Message → Type 0
-MayClose n s e t taken = Turn n s e t.state (is_open s n) s.next taken None ⊎ ((is_open s n ≡ true) × Turn n s e t.state false s.next taken (Some Memory))
+MayClose n s e t taken =
+    Turn n s e t.state (session_after (is_open s n) s.next taken None)
+    ⊎ ((is_open s n ≡ true) × Turn n s e t.state (session_after false s.next taken (Some Memory)))
 
 -- if no session is opened
 may_close : (n : ℕ) (s : State) (e : Entry) (t : Stepped) (taken : List Message) → taken_by n e.event ≡ taken → cause_in n e.event ≡ Memory → IsNoMore (now s e) t.state → MayClose n s e t taken

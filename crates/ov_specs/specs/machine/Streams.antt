@@ -28,43 +28,65 @@ pub record IsEntryAt (at : ℕ) (s : State) (what : Event) (entry : Entry) (t : 
   pub moment : entry.choice.moment ≡ max at s.moment
   pub step : step s entry ≡ Some t
 
+-- a piece of this session's stream comes at this moment
+pub record Delivery : Type 0 where
+  pub moment : ℕ
+  pub session : ℕ
+
+abbrev pub delivered : ℕ → ℕ → Delivery
+delivered moment session = record { moment = moment; session = session }
+
 -- The entries of the messages that a piece of the session's stream completes, and then of damage, if it is new. "Out of
 -- memory" may close the session in place of each, and after the last; nothing of a closed session follows.
-abbrev pub Feeds : ℕ → State → ℕ → List Message → Bool → List Entry → State → Type 0
-Feeds at s n [] false [] new = new ≡ s
-Feeds at s n [] true [] new = ⊥
-Feeds at s n [] damaged (e ∷ []) new =
-    (t : Stepped) × (IsEntryAt at s (Close n Memory) e t ⊎ ((damaged ≡ true) × IsEntryAt at s (Close n Damaged) e t)) × (new ≡ t.state)
-Feeds at s n [] damaged (e ∷ f ∷ entries) new = ⊥
-Feeds at s n (message ∷ messages) damaged [] new = ⊥
-Feeds at s n (message ∷ messages) damaged (e ∷ entries) new =
-    (t : Stepped) × ((IsEntryAt at s (Close n Memory) e t × (entries ≡ []) × (new ≡ t.state))
-    ⊎ (IsEntryAt at s (Take n message) e t × MatchBool (is_open t.state n) (Feeds at t.state n messages damaged entries new) ((entries ≡ []) × (new ≡ t.state))))
+abbrev pub Feeds : Delivery → State → List Message → Bool → List Entry → State → Type 0
+Feeds d s [] false [] new = new ≡ s
+Feeds d s [] true [] new = ⊥
+Feeds d s [] damaged (e ∷ []) new =
+    (t : Stepped) × (IsEntryAt d.moment s (Close d.session Memory) e t
+    ⊎ ((damaged ≡ true) × IsEntryAt d.moment s (Close d.session Damaged) e t)) × (new ≡ t.state)
+Feeds d s [] damaged (e ∷ f ∷ entries) new = ⊥
+Feeds d s (message ∷ messages) damaged [] new = ⊥
+Feeds d s (message ∷ messages) damaged (e ∷ entries) new =
+    (t : Stepped) × ((IsEntryAt d.moment s (Close d.session Memory) e t × (entries ≡ []) × (new ≡ t.state))
+    ⊎ (IsEntryAt d.moment s (Take d.session message) e t
+    × MatchBool (is_open t.state d.session) (Feeds d t.state messages damaged entries new) ((entries ≡ []) × (new ≡ t.state))))
+
+-- a state, and what its sessions were fed
+pub record FedState : Type 0 where
+  pub state : State
+  pub streams : Streams
+
+abbrev pub fed_state : State → Streams → FedState
+fed_state state streams = record { state = state; streams = streams }
 
 -- The entries of one stream event, from a state and the streams so far to those after it. A piece brings the messages that the
 -- stream asks for with it and not without it; pieces and ends of a session that is not open bring nothing.
-abbrev pub Expands : ℕ → State → Streams → StreamEvent → List Entry → State → Streams → Type 0
-Expands at s streams Opens entries new after =
-    (e : Entry) × (t : Stepped) × (entries ≡ e ∷ []) × IsEntryAt at s Open e t × (new ≡ t.state) × (after ≡ streams)
-Expands at s streams (Feed n bytes) entries new after =
-    MatchBool (is_open s n)
-    ((messages : List Message) × ((asked (streams n ++ bytes)).messages ≡ (asked (streams n)).messages ++ messages)
-    × Feeds at s n messages (asked (streams n ++ bytes)).damaged entries new × (after ≡ with_fed streams n bytes))
-    ((entries ≡ []) × (new ≡ s) × (after ≡ streams))
-Expands at s streams (Finish n) entries new after =
-    MatchBool (is_open s n)
-    ((e : Entry) × (t : Stepped) × (entries ≡ e ∷ []) × IsEntryAt at s (Close n InputEnded) e t × (new ≡ t.state) × (after ≡ streams))
-    ((entries ≡ []) × (new ≡ s) × (after ≡ streams))
-Expands at s streams (Passes ms) entries new after =
-    (e : Entry) × (t : Stepped) × (entries ≡ e ∷ []) × IsEntryAt ms s Tick e t × (new ≡ t.state) × (after ≡ streams)
+abbrev pub Expands : ℕ → FedState → StreamEvent → List Entry → FedState → Type 0
+Expands at from Opens entries to =
+    (e : Entry) × (t : Stepped) × (entries ≡ e ∷ []) × IsEntryAt at from.state Open e t
+    × (to.state ≡ t.state) × (to.streams ≡ from.streams)
+Expands at from (Feed n bytes) entries to =
+    MatchBool (is_open from.state n)
+    ((messages : List Message) × ((asked (from.streams n ++ bytes)).messages ≡ (asked (from.streams n)).messages ++ messages)
+    × Feeds (delivered at n) from.state messages (asked (from.streams n ++ bytes)).damaged entries to.state
+    × (to.streams ≡ with_fed from.streams n bytes))
+    ((entries ≡ []) × (to.state ≡ from.state) × (to.streams ≡ from.streams))
+Expands at from (Finish n) entries to =
+    MatchBool (is_open from.state n)
+    ((e : Entry) × (t : Stepped) × (entries ≡ e ∷ []) × IsEntryAt at from.state (Close n InputEnded) e t
+    × (to.state ≡ t.state) × (to.streams ≡ from.streams))
+    ((entries ≡ []) × (to.state ≡ from.state) × (to.streams ≡ from.streams))
+Expands at from (Passes ms) entries to =
+    (e : Entry) × (t : Stepped) × (entries ≡ e ∷ []) × IsEntryAt ms from.state Tick e t
+    × (to.state ≡ t.state) × (to.streams ≡ from.streams)
 
 -- the entries of a list of stream events, each at the moment beside it or at the last one if that is later
-abbrev pub ExpandsTimed : State → Streams → List (ℕ × StreamEvent) → List Entry → State → Streams → Type 0
-ExpandsTimed s streams [] history new after = (history ≡ []) × (new ≡ s) × (after ≡ streams)
-ExpandsTimed s streams (event ∷ events) history new after =
-    (front rest : List Entry) × (mid : State) × (between : Streams) × (history ≡ front ++ rest)
-    × Expands event.0 s streams event.1 front mid between × ExpandsTimed mid between events rest new after
+abbrev pub ExpandsTimed : FedState → List (ℕ × StreamEvent) → List Entry → FedState → Type 0
+ExpandsTimed from [] history to = (history ≡ []) × (to ≡ from)
+ExpandsTimed from (event ∷ events) history to =
+    (front rest : List Entry) × (between : FedState) × (history ≡ front ++ rest)
+    × Expands event.0 from event.1 front between × ExpandsTimed between events rest to
 
 -- the entries of a list of stream events: time passes to its own moment, all others have the last one
-abbrev pub ExpandsAll : State → Streams → List StreamEvent → List Entry → State → Streams → Type 0
-ExpandsAll s streams events history new after = ExpandsTimed s streams (map (λ event. (0, event)) events) history new after
+abbrev pub ExpandsAll : FedState → List StreamEvent → List Entry → FedState → Type 0
+ExpandsAll from events history to = ExpandsTimed from (map (λ event. (0, event)) events) history to
