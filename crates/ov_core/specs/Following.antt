@@ -23,6 +23,15 @@ pub record CoreState (K D : Type 0) : Type 0 where
   pub source : D
   pub tries : ℕ
 
+-- a core, and the clock that gives it its moments
+pub record Timed (K D C : Type 0) : Type 0 where
+  pub core : CoreState K D
+  pub clock : C
+
+-- these two
+abbrev pub with_clock : {K D C : Type 0} → CoreState K D → C → Timed K D C
+with_clock core clock = record { core = core; clock = clock }
+
 -- The history leads from the state before it to the core's state, and ends with the entries that are kept. Of the frames that
 -- it sends to each session, `given` were handed out and the others wait.
 pub record Follows {K D : Type 0} (before : State) (history : List machine.Entry) (given : ℕ → List (List ℕ)) (core : CoreState K D) : Type 0 where

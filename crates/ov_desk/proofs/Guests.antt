@@ -12,7 +12,7 @@ use Rattle.ov_specs.specs.machine.History.{run, requests, taken_by, frames_to, c
 use Rattle.ov_specs.proofs.laws.Histories.{closed_by_append}
 use Rattle.ov_specs.proofs.laws.Queueing.{run_in_order}
 use Rattle.ov_outbox.proofs.Answered.{frames_to-append}
-use Rattle.ov_core.specs.Following.{CoreState}
+use Rattle.ov_core.specs.Following.{CoreState, with_clock}
 use Rattle.ov_core.proofs.Counted.{counts_on}
 use Rattle.ov_lanes.specs.Courses.{Course}
 use Rattle.ov_lanes.specs.Fitting.{FitsCourse}
@@ -28,7 +28,6 @@ use Rattle.ov_lanes.proofs.Timing.{timed_append, timed_more, tells_more}
 use Rattle.ov_desk.specs.Ending.{EndsAs, EndsAfter, finish_for}
 use Rattle.ov_desk.specs.LinkStates.{LinkState}
 use Rattle.ov_desk.specs.Outcome.{Finish}
-use Rattle.ov_desk.specs.Timed.{with_clock}
 use Rattle.ov_desk.specs.Guests.{IsGuest, ServesGuests, HasLeft, StayOrLeave, SameSession, HaveLeft, HostsOn, HostsBy}
 use Rattle.ov_desk.specs.Serving.{IsTended}
 use Rattle.ov_desk.proofs.Endings.{outcome_as, link_ends}

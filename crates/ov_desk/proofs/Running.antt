@@ -14,7 +14,8 @@ use Rattle.ov_lanes.proofs.PlaceLaws.{some_before, some_after}
 use Rattle.ov_lanes.specs.declared.desk.Desk.{Desk}
 use Rattle.ov_desk.specs.declared.hall.Hall.{Hall}
 use Rattle.ov_desk.specs.Guests.{IsKept}
-use Rattle.ov_desk.specs.Timed.{Timed, TakesTime, with_clock}
+use Rattle.ov_desk.specs.Time.{TakesTime}
+use Rattle.ov_core.specs.Following.{Timed, with_clock}
 use Rattle.ov_desk.specs.Serving.{ServesLobby, ServesBy, times, AreApart, KeepsPlaces, KeepsHall, TakesNoted, IsTended}
 
 -- ---- places that are kept

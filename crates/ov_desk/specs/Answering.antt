@@ -1,6 +1,6 @@
 -- What the calls that serve answer.
 use Rattle.std.specs.Prelude.{◌≡◌, ◌⊎◌, ℕ, List, length, Result, IfOk, IfErr, OnErr}
-use Rattle.ov_core.specs.Following.{CoreState}
+use Rattle.ov_core.specs.Following.{CoreState, Timed, with_clock}
 use Rattle.ov_lanes.specs.declared.desk.Desk.{Desk}
 use Rattle.ov_lanes.specs.declared.link.Link.{Link}
 use Rattle.ov_lanes.specs.declared.fault.ServeFault.TheVariants.{Memory, Threads}
@@ -10,7 +10,6 @@ use Rattle.ov_desk.specs.declared.link.Unserved.{Unserved}
 use Rattle.ov_desk.specs.Guests.{ServesGuests}
 use Rattle.ov_desk.specs.LinkStates.{LinkState}
 use Rattle.ov_desk.specs.Serving.{RefusesLinks, ServesAll}
-use Rattle.ov_desk.specs.Timed.{Timed, with_clock}
 
 -- what a call is to serve, links or a listener, with the machine and the clock as it finds them
 pub record ToServe (K D C A : Type 0) : Type 0 where

@@ -1,7 +1,7 @@
 -- The connections to which a lobby gave a session.
 use Rattle.std.specs.Prelude.{◌≡◌, ◌⊎◌, ◌<◌, ◌≤◌, ℕ, List, vec_len, true, false, Option}
 use Rattle.ov_specs.specs.machine.Machine.{is_open}
-use Rattle.ov_core.specs.Following.{CoreState}
+use Rattle.ov_core.specs.Following.{CoreState, Timed}
 use Rattle.ov_lanes.specs.Moments.{Tells}
 use Rattle.ov_lanes.specs.Since.{Since}
 use Rattle.ov_lanes.specs.Lanes.{IsAt, StayAs, Serves, ServesOn, GoesOn}
@@ -15,7 +15,6 @@ use Rattle.ov_desk.specs.Ends.{EndsLane}
 use Rattle.ov_desk.specs.LinkStates.{LinkState}
 use Rattle.ov_desk.specs.Seats.{AreSeats}
 use Rattle.ov_desk.specs.Serving.{ServesLobby, ServesBy, IsTended}
-use Rattle.ov_desk.specs.Timed.{Timed}
 
 -- The session was served to its end: it was given a link, and this is what remains of the link.
 pub record IsGuest {K D S W : Type 0} {old new : CoreState K D} (ends : S → W → LinkState) (since : Since old new) (n : ℕ) : Type 0 where

@@ -1,5 +1,5 @@
 pub mod LinkStates
-pub mod Timed
+pub mod Time
 pub mod Outcome
 pub mod Ending
 pub mod Ends

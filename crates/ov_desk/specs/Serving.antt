@@ -3,7 +3,7 @@ use Rattle.std.specs.Prelude.{◌≡◌, ◌≢◌, ℕ, ◌+◌, ◌<◌, List,
 use Rattle.rtrb.specs.Ring.{received}
 use Rattle.ov_specs.specs.machine.Machine as machine
 use Rattle.ov_specs.specs.machine.Machine.{is_open}
-use Rattle.ov_core.specs.Following.{CoreState}
+use Rattle.ov_core.specs.Following.{CoreState, Timed}
 use Rattle.ov_lanes.specs.Courses.{Spares}
 use Rattle.ov_lanes.specs.Moments.{AreTimedBy}
 use Rattle.ov_lanes.specs.Since.{Since, course_of, course_before}
@@ -19,7 +19,7 @@ use Rattle.ov_desk.specs.declared.hall.Hall.{Hall}
 use Rattle.ov_desk.specs.declared.link.End.{End}
 use Rattle.ov_desk.specs.Ends.{AllEnd}
 use Rattle.ov_desk.specs.LinkStates.{LinkState}
-use Rattle.ov_desk.specs.Timed.{Timed, TakesTime}
+use Rattle.ov_desk.specs.Time.{TakesTime}
 
 -- ---- links
 

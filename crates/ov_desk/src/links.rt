@@ -1,6 +1,6 @@
 ghost use Rattle.std.specs.Prelude.{◌≡◌, ◌≤◌, ◌-◌, ◌^◌, ℕ, [], true, vec_len, vec_capacity, IfOk};
 ghost use Rattle.std.specs.Prelude.{IfErr};
-ghost use Rattle.ov_core.specs.Following.{CoreState};
+ghost use Rattle.ov_core.specs.Following.{CoreState, with_clock};
 ghost use Rattle.std.specs.VecDeque.{deque_len};
 ghost use Rattle.ov_lanes.specs.Lanes.{AreNewLanes};
 ghost use Rattle.ov_lanes.specs.Opening.{AreSessions};
@@ -11,7 +11,6 @@ ghost use Rattle.ov_desk.specs.LinkStates.{ends_of};
 ghost use Rattle.ov_desk.specs.Opening.{IsOpened};
 ghost use Rattle.ov_desk.specs.Seats.{AreStarted, IsSeatOf};
 ghost use Rattle.ov_desk.specs.Serving.{RefusesLinks, ServesAll};
-ghost use Rattle.ov_desk.specs.Timed.{with_clock};
 
 use crate::finish::finish_all;
 use crate::hall::Hall;

@@ -13,7 +13,7 @@ use Rattle.ov_desk.specs.declared.link.End.{End}
 use Rattle.ov_desk.specs.Guests.{ServesGuests}
 use Rattle.ov_desk.specs.LinkStates.{LinkState}
 use Rattle.ov_desk.specs.Serving.{RefusesLinks, ServesAll}
-use Rattle.ov_desk.specs.Timed.{Timed}
+use Rattle.ov_core.specs.Following.{Timed}
 use Rattle.ov_sockets.specs.declared.fault.ListenFault.{ListenFault}
 use Rattle.ov_sockets.specs.Links.{IsLinkOf}
 use Rattle.ov_words.specs.declared.ending.Ending.{Ending}

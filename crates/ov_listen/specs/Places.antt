@@ -3,10 +3,9 @@ use Rattle.std.specs.Prelude.{◌≡◌, ℕ}
 use Rattle.ov_specs.specs.rows.Cells.{Stored}
 use Rattle.ov_db.specs.Committing.{MayFind}
 use Rattle.ov_db.specs.declared.fault.RefusedOpen.{RefusedOpen}
-use Rattle.ov_core.specs.Following.{CoreState}
+use Rattle.ov_core.specs.Following.{CoreState, with_clock}
 use Rattle.ov_core.specs.Leaving.{LeavesItsOwn}
 use Rattle.ov_core.specs.Opening.{OpensCore, RefusesCore}
-use Rattle.ov_desk.specs.Timed.{with_clock}
 use Rattle.ov_serve.specs.Serving.{ServerState}
 use Rattle.ov_words.specs.declared.ending.Ending.{Ending}
 use Rattle.ov_pipes.specs.Pipes.{PipesState}

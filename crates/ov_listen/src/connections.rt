@@ -1,5 +1,5 @@
 ghost use Rattle.std.specs.Prelude.{◌≡◌, IfOk, IfErr, length, vec_len};
-ghost use Rattle.ov_desk.specs.Timed.{with_clock};
+ghost use Rattle.ov_core.specs.Following.{with_clock};
 ghost use Rattle.ov_listen.specs.Connections.{EndsSoMany, RefusesConnections, ServesConnections};
 
 use crate::endings::{ending_of_listening, ending_of_serving};

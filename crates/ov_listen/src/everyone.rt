@@ -1,5 +1,5 @@
 ghost use Rattle.std.specs.Prelude.{◌≡◌};
-ghost use Rattle.ov_desk.specs.Timed.{with_clock};
+ghost use Rattle.ov_core.specs.Following.{with_clock};
 ghost use Rattle.ov_listen.specs.Connections.{EndsEveryone};
 
 use crate::endings::ending_of_serving;

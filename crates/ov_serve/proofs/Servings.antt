@@ -21,7 +21,7 @@ use Rattle.ov_history.specs.declared.event.Cause.{Cause}
 use Rattle.ov_history.specs.declared.event.Cause.TheVariants.{WriteFault, Damaged, Memory}
 use Rattle.ov_history.specs.Entries.{cause_view, entry_view}
 use Rattle.ov_outbox.specs.Frames.{waiting_for}
-use Rattle.ov_core.specs.Following.{CoreState, Follows, Extends, and_all_handed}
+use Rattle.ov_core.specs.Following.{CoreState, Follows, Extends, and_all_handed, with_clock}
 use Rattle.ov_history.specs.History.{KeepsNewest}
 use Rattle.ov_core.specs.Stepping.{closing, Closes}
 use Rattle.ov_history.proofs.Histories.{keeps_last}
@@ -29,7 +29,7 @@ use Rattle.ov_streams.specs.Feeding.{IsFed, fed_piece}
 use Rattle.ov_serve.specs.Serving.{ServerState, ExtendsHanding, Piece, Pieces, most_piece_bytes, bytes_of, piece_events, events_of, TellsMoments, IsCauseIn, ClosesAfter, ClosesFor, is_written, EndsAs, Served}
 use Rattle.ov_ends.specs.States.{SourceState, SinkState}
 use Rattle.ov_ends.specs.Writing.{WritesOf}
-use Rattle.ov_serve.specs.Progress.{Sends, stream_cause, IsShut, StandsAfter, timed_core, ServesPiece, ServedSoFar, ServedAndFed}
+use Rattle.ov_serve.specs.Progress.{Sends, stream_cause, IsShut, StandsAfter, ServesPiece, ServedSoFar, ServedAndFed}
 use Rattle.ov_serve.proofs.Unopened.{close_spares, close_of_open, next_is_unopened}
 use Rattle.ov_serve.proofs.Closings.{not_closed, is_shut, closed_by_closing, stream_cause_is}
 use Rattle.ov_serve.proofs.Fed.{piece_of, makes}
@@ -116,7 +116,7 @@ module _ {K D C : Type 0} (tells : C → ℕ → C → Type 0) (n : ℕ) (old : 
 
   -- a piece was read and entered, and time passed after it, or not
   pub then_fed : (a : ServerState K D C) (b : CoreState K D) (piece : List ℕ) (reader : SourceState) (clock : C) (is_all : Bool) (cutter : CutterState) → is_open a.core.state n ≡ true → (done : ServedSoFar tells n true old a)
-      → length piece ≤ most_piece_bytes → reader.read ≡ a.reader.read ++ piece → ServesPiece tells (fed_piece n (bytes_of done.pieces) piece) (timed_core a.core a.clock) is_all (timed_core b clock) cutter
+      → length piece ≤ most_piece_bytes → reader.read ≡ a.reader.read ++ piece → ServesPiece tells (fed_piece n (bytes_of done.pieces) piece) (with_clock a.core a.clock) is_all (with_clock b clock) cutter
       → ServedAndFed tells n old (record a { core = b; reader = reader; clock = clock }) cutter
   then_fed a b piece reader clock is_all cutter there done short read serves =
       let p : Piece = piece_of serves.at piece serves.ticks in

@@ -7,7 +7,7 @@ use Rattle.ov_specs.specs.machine.Streams as streams
 use Rattle.ov_specs.specs.machine.Streams.{Streams, no_streams, ExpandsTimed, fed_state}
 use Rattle.ov_cut.specs.CutterState.{CutterState}
 use Rattle.ov_outbox.specs.Frames.{waiting_for}
-use Rattle.ov_core.specs.Following.{CoreState}
+use Rattle.ov_core.specs.Following.{CoreState, Timed}
 use Rattle.ov_core.specs.Passing.{is_due}
 use Rattle.ov_streams.specs.Entering.{ExtendsByStep}
 use Rattle.ov_streams.specs.Feeding.{IsFed, FedPiece, EntersPiece}
@@ -59,18 +59,9 @@ abbrev pub PassesIf : {K D : Type 0} → Bool → ℕ → CoreState K D → Core
 PassesIf true at old new = PassesDue at old new
 PassesIf false at old new = new ≡ old
 
--- a core with its clock
-pub record TimedCore (K D C : Type 0) : Type 0 where
-  pub core : CoreState K D
-  pub clock : C
-
--- these
-abbrev pub timed_core : {K D C : Type 0} → CoreState K D → C → TimedCore K D C
-timed_core core clock = record { core = core; clock = clock }
-
 -- A piece of a session's stream was entered at the moment that the clock reported. Then time passed to it, if the session
 -- is still open and a transaction is due; unless that was refused, and then not all was done.
-pub record ServesPiece {K D C : Type 0} (tells : C → ℕ → C → Type 0) (piece : FedPiece) (old : TimedCore K D C) (is_all : Bool) (new : TimedCore K D C) (cutter : CutterState) : Type 0 where
+pub record ServesPiece {K D C : Type 0} (tells : C → ℕ → C → Type 0) (piece : FedPiece) (old : Timed K D C) (is_all : Bool) (new : Timed K D C) (cutter : CutterState) : Type 0 where
   pub at : ℕ
   pub told : tells old.clock at new.clock
   pub mid : CoreState K D

@@ -4,13 +4,13 @@ ghost use Rattle.std.specs.Io.KnownBytes.{IsAtEnd};
 ghost use Rattle.ov_specs.specs.machine.Machine.{is_open, Entry as SpecEntry, Open as SpecOpen};
 ghost use Rattle.ov_history.specs.Entries.{cause_view, event_view, entry_view};
 ghost use Rattle.ov_history.specs.declared.event.Stepped.TheVariants.{Opened};
-ghost use Rattle.ov_core.specs.Following.{CoreState};
+ghost use Rattle.ov_core.specs.Following.{CoreState, with_clock};
 ghost use Rattle.ov_core.specs.Stepping.{IsEntered, RefusesStep};
 ghost use Rattle.ov_streams.specs.Feeding.{IsFed, fed_piece};
 ghost use Rattle.ov_ends.specs.Ends.{KeepsInput, GivesWritten};
 ghost use Rattle.ov_serve.specs.Serving.{ServesSession, Served, server_of, is_written};
 ghost use Rattle.ov_serve.specs.Serving.{CauseMatchesCounts, most_piece_bytes};
-ghost use Rattle.ov_serve.specs.Progress.{stream_cause, ServesPiece, timed_core};
+ghost use Rattle.ov_serve.specs.Progress.{stream_cause, ServesPiece};
 
 use crate::send::write_waiting;
 use ov_core::{Cause, Core, Entry, Event, Session, StepFault};
@@ -124,7 +124,7 @@ fn serve_piece<K: Keeper + Drop, D: Draws + Drop, C: Clock>(
     ensures short { length piece.now ≤ most_piece_bytes }
     ensures entered { (stream : List ℕ) → IsFed stream cutter.old
         → ServesPiece C.tells (fed_piece session.serial stream piece.now)
-        (timed_core core.old clock.old) (is_ok result) (timed_core core.new clock.new)
+        (with_clock core.old clock.old) (is_ok result) (with_clock core.new clock.new)
         cutter.new }
     ensures honest { K.is_honest core.new.keeper → K.is_honest core.old.keeper }
 {

@@ -1,7 +1,7 @@
 use Rattle.std.proofs.Common.{rules, ◌≡◌, ◌++◌, ℕ, length, vec_len, ◌≤◌, refl, sym, ap, subst, ◌∙◌, arith}
 use Rattle.std.specs.VecDeque.{deque_len, deque_capacity}
 use Rattle.ov_desk.specs.LinkStates.{ends_of}
-use Rattle.ov_desk.specs.Timed.{with_clock}
+use Rattle.ov_core.specs.Following.{with_clock}
 use Rattle.ov_lanes.specs.Lanes.{SameLane, StayAs}
 use Rattle.ov_lanes.specs.Opening.{OpensAll}
 use Rattle.ov_lanes.specs.Pairs.{Threewise}

@@ -1,7 +1,7 @@
 use Rattle.std.proofs.Common.{refl, sym, subst, inr}
 use Rattle.ov_desk.specs.Guests.{ServesGuests}
 use Rattle.ov_desk.specs.LinkStates.{ends_of}
-use Rattle.ov_desk.specs.Timed.{with_clock}
+use Rattle.ov_core.specs.Following.{with_clock}
 use Rattle.ov_desk.proofs.Guests.{serves_guests}
 use Rattle.ov_desk.proofs.lobby.serve_scoped.Goals as goal
 

@@ -1,18 +1,9 @@
--- A machine and the clock that gives it its moments.
+-- The moments at which threads take messages and time passes.
 use Rattle.std.specs.Prelude.{◌≡◌, ℕ, List, ◌++◌}
 use Rattle.ov_specs.specs.machine.Machine as machine
 use Rattle.ov_specs.specs.machine.Machine.{State}
-use Rattle.ov_core.specs.Following.{CoreState}
+use Rattle.ov_core.specs.Following.{Timed}
 use Rattle.ov_lanes.specs.Moments.{AreTimed, AreTimedBy, Tells}
-
--- the machine with the clock as it is at the same time
-pub record Timed (K D C : Type 0) : Type 0 where
-  pub core : CoreState K D
-  pub clock : C
-
--- these two
-abbrev pub with_clock : {K D C : Type 0} → CoreState K D → C → Timed K D C
-with_clock core clock = record { core = core; clock = clock }
 
 -- Sessions were opened, and then each message was taken and time passed at moments that the clock reported, one after another.
 pub record TakesTime {K D C : Type 0} (tells : C → ℕ → C → Type 0) (old : Timed K D C) (entries : List machine.Entry) (new : Timed K D C) : Type 0 where
