@@ -1,5 +1,6 @@
-ghost use Rattle.std.specs.Prelude.{◌≡◌, ◌-◌, ◌^◌, [], IfOk};
+ghost use Rattle.std.specs.Prelude.{◌≡◌, ◌-◌, ◌^◌, [], IfOk, IfErr};
 ghost use Rattle.ov_lanes.specs.Lanes.{AreFree, Serves};
+ghost use Rattle.ov_lanes.specs.declared.fault.ServeFault.TheVariants as fault;
 ghost use Rattle.ov_desk.specs.Answering.{AnswersLobby, to_serve};
 ghost use Rattle.ov_desk.specs.LinkStates.{ends_of};
 ghost use Rattle.ov_desk.specs.Opening.{AreEmpty};
@@ -130,8 +131,9 @@ where
     C: Clock,
     requires free { AreFree hall.desk.lanes.items }
     requires seats { AreSeats hall }
-    ensures { AnswersLobby (ends_of S.Source W.Sink) C.tells K.is_honest
+    ensures answers { AnswersLobby (ends_of S.Source W.Sink) C.tells K.is_honest
         (to_serve hall.desk.core clock.old door.listener) result clock.new }
+    ensures threads { IfErr result (λ refused. refused.fault ≡ fault.Threads) }
 {
     let Door {
         listener,
@@ -180,8 +182,9 @@ where
     C: Clock,
     requires free { AreFree hall.desk.lanes.items }
     requires seats { AreSeats hall }
-    ensures { AnswersLobby (ends_of S.Source W.Sink) C.tells K.is_honest
+    ensures answers { AnswersLobby (ends_of S.Source W.Sink) C.tells K.is_honest
         (to_serve hall.desk.core clock.old door.listener) result clock.new }
+    ensures threads { IfErr result (λ refused. refused.fault ≡ fault.Threads) }
 {
     let (served, _clock) = thread::scope(
         thread::scope_env(),
@@ -191,6 +194,7 @@ where
             requires seats { AreSeats hall }
             ensures answers { AnswersLobby (ends_of S.Source W.Sink) C.tells K.is_honest
                 (to_serve hall.desk.core clock.entry.now door.listener) result.0 result.1.now }
+            ensures threads { IfErr result.0 (λ refused. refused.fault ≡ fault.Threads) }
             ensures same_clock { result.1.ghost_name ≡ clock.entry.ghost_name }
         {
             let served = serve_scoped(common, scope, bells, hall, door, clock);

@@ -5,8 +5,8 @@ use Rattle.ov_core.specs.Following.{with_clock}
 use Rattle.ov_desk.proofs.Guests.{serves_guests}
 use Rattle.ov_desk.proofs.lobby.serve_scoped.Goals as goal
 
-pub returns : goal.returns
-returns g c =
+pub returns-clause-answers : goal.returns-clause-answers
+returns-clause-answers g c =
     let ends = ends_of g.S.Source g.W.Sink in let s = c.shows_none_served.ensures in
     let old = c.args.hall.desk in let new = c.run.new.hall.desk in
     record {
@@ -18,5 +18,5 @@ returns g c =
       honest = λ honest. c.run.ensures.honest (subst (λ core. g.K.Keeper.is_honest core.keeper) c.leave_all.ensures.core honest);
     }
 
-pub returns-in_default : goal.returns-in_default
-returns-in_default g c = record { guests = tt; refused = (refl, refl); fault = inr refl; untouched = refl; honest = tt }
+pub returns-in_default-clause-answers : goal.returns-in_default-clause-answers
+returns-in_default-clause-answers g c = record { guests = tt; refused = (refl, refl); fault = inr refl; untouched = refl; honest = tt }
