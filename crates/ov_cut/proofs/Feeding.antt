@@ -11,7 +11,7 @@ use Rattle.ov_cut.specs.Message.{Brings}
 use Rattle.ov_cut.specs.Piece.{TakesPiece, with_fault}
 use Rattle.ov_cut.specs.CutterState.{CutterState, StandsFor, IsBeginning, fault_of_damage, offset_in_64_bits}
 
-told_none : (d : Option Damage) → fault_of_damage d ≡ None → d ≡ None
+pub told_none : (d : Option Damage) → fault_of_damage d ≡ None → d ≡ None
 told_none None h = refl
 told_none (Some (Stray n)) h = cc
 told_none (Some TooLong) h = cc

@@ -2,3 +2,4 @@ pub mod Gap
 pub mod Message
 pub mod CutterState
 pub mod Piece
+pub mod Reading

@@ -14,3 +14,12 @@ pub enum CutFault {
     #[error("no memory is left for the next message")]
     Memory,
 }
+
+/// Why a stream can't be read on.
+#[derive(Clone, Copy, Debug, PartialEq, Eq)]
+pub enum StreamFault {
+    /// The stream can't be cut, or one of its texts is unreadable.
+    Damaged,
+    /// An allocation for a message failed.
+    Memory,
+}

@@ -7,10 +7,11 @@ use Rattle.ov_specs.specs.machine.Streams.{Feed, Passes, Streams, with_fed, Feed
 use Rattle.ov_specs.specs.values.Uuid.{Uuid}
 use Rattle.ov_specs.proofs.laws.Expanding.{one_after_another, one_event}
 use Rattle.ov_cut.specs.CutterState.{CutterState}
+use Rattle.ov_cut.specs.Reading.{IsFed}
 use Rattle.ov_history.specs.declared.event.Stepped.TheVariants as answer
 use Rattle.ov_core.specs.Following.{CoreState, Extends}
 use Rattle.ov_core.specs.Stepping.{IsEntered}
-use Rattle.ov_streams.specs.Feeding.{IsFed, FedPiece, EntersPiece, fed_piece}
+use Rattle.ov_streams.specs.Feeding.{FedPiece, EntersPiece, fed_piece}
 use Rattle.ov_streams.proofs.Entering.{enters_more}
 use Rattle.ov_core.specs.Passing.{is_due, TicksIf}
 use Rattle.ov_serve.specs.Serving.{Piece, piece_events, PassesWhereDue}

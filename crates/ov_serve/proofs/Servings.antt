@@ -17,6 +17,7 @@ use Rattle.ov_specs.proofs.laws.Histories.{closed_by_append}
 use Rattle.ov_specs.proofs.laws.Turns.{turn_close}
 use Rattle.std.specs.Option.{option_or}
 use Rattle.ov_cut.specs.CutterState.{CutterState}
+use Rattle.ov_cut.specs.Reading.{IsFed}
 use Rattle.ov_history.specs.declared.event.Cause.{Cause}
 use Rattle.ov_history.specs.declared.event.Cause.TheVariants.{WriteFault, Damaged, Memory}
 use Rattle.ov_history.specs.Entries.{cause_view, entry_view}
@@ -25,7 +26,7 @@ use Rattle.ov_core.specs.Following.{CoreState, Follows, Extends, and_all_handed,
 use Rattle.ov_history.specs.History.{KeepsNewest}
 use Rattle.ov_core.specs.Stepping.{closing, Closes}
 use Rattle.ov_history.proofs.Histories.{keeps_last}
-use Rattle.ov_streams.specs.Feeding.{IsFed, fed_piece}
+use Rattle.ov_streams.specs.Feeding.{fed_piece}
 use Rattle.ov_serve.specs.Serving.{ServerState, ExtendsHanding, Piece, Pieces, most_piece_bytes, bytes_of, piece_events, events_of, TellsMoments, IsCauseIn, ClosesAfter, ClosesFor, is_written, EndsAs, Served}
 use Rattle.ov_ends.specs.States.{SourceState, SinkState}
 use Rattle.ov_ends.specs.Writing.{WritesOf}

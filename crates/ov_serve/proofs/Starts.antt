@@ -1,10 +1,8 @@
 -- What a session begins with.
-use Rattle.std.proofs.Common.{◌≡◌, ℕ, ◌≤◌, [], ◌∷◌, length, true, false, refl, sym, ◌∙◌, append-nil}
+use Rattle.std.proofs.Common.{◌≡◌, ℕ, ◌≤◌, [], ◌∷◌, length, true, refl, sym, ◌∙◌, append-nil}
 use Rattle.std.proofs.Math.Nat.{zero-max}
 use Rattle.std.proofs.lemmas.List.Elements.{All-nil}
 use Rattle.std.proofs.lemmas.Bool.{eq-eqb}
-use Rattle.ov_specs.specs.wire.Cut.{cut}
-use Rattle.ov_specs.specs.wire.Message.{asked}
 use Rattle.ov_specs.specs.machine.Machine as machine
 use Rattle.ov_specs.specs.machine.Machine.{is_open}
 use Rattle.ov_specs.specs.values.Uuid.{Uuid}
@@ -14,28 +12,16 @@ use Rattle.ov_specs.proofs.laws.Expanding.{one_event}
 use Rattle.ov_specs.proofs.laws.Histories.{leads_none, leads_more, closed_by_more}
 use Rattle.ov_specs.proofs.laws.Turns.{turn_open}
 use Rattle.ov_cut.specs.CutterState.{CutterState, StandsFor}
+use Rattle.ov_cut.proofs.Pieces.{fed_none}
 use Rattle.ov_sessions.specs.declared.session.Session.{Session}
 use Rattle.ov_history.specs.declared.event.Stepped.TheVariants as answer
 use Rattle.ov_core.specs.Following.{CoreState}
 use Rattle.ov_core.specs.Stepping.{IsEntered}
-use Rattle.ov_streams.specs.Feeding.{IsFed}
 use Rattle.ov_serve.specs.Serving.{ServerState, Piece, most_piece_bytes}
 use Rattle.ov_serve.specs.Progress.{ServedAndFed}
 use Rattle.ov_serve.proofs.Closings.{stands_open}
 use Rattle.ov_serve.proofs.Goings.{goes_by_entries}
 use Rattle.ov_specs.proofs.laws.Truths.{or_truth}
-
-nothing_damaged : (asked []).damaged ≡ false
-unfolding asked cut
-nothing_damaged = refl
-
--- a cutter that has not been used yet
-fed_nothing : (cutter : CutterState) → StandsFor [] [] cutter → IsFed [] cutter
-fed_nothing cutter stands = record {
-  given = [];
-  stands = stands;
-  whole = nothing_damaged;
-}
 
 -- a session that was opened
 pub serving_opened : {K D C : Type 0} (draws : D → Uuid → D → Type 0) (tells : C → ℕ → C → Type 0) (session : Session) (old : ServerState K D C) (new : CoreState K D) (cutter : CutterState) → StandsFor [] [] cutter
@@ -64,5 +50,5 @@ serving_opened draws tells session old new cutter stands entered =
         stands = stands_open session.serial old.core.state (entered.entry ∷ []) new.state (leads_more old.core.state [] old.core.state entered.entry t (leads_none old.core.state) entered.moves.stepped) there
             (closed_by_more old.core.state [] old.core.state entered.entry t session.serial (leads_none old.core.state) entered.moves.stepped ∙ turn.cause_is);
       };
-      fed = λ _. fed_nothing cutter stands;
+      fed = λ _. fed_none cutter stands;
     }

@@ -6,11 +6,12 @@ use Rattle.ov_specs.specs.machine.History.{run, joined, closed_by}
 use Rattle.ov_specs.specs.machine.Streams as streams
 use Rattle.ov_specs.specs.machine.Streams.{Streams, no_streams, ExpandsTimed, fed_state}
 use Rattle.ov_cut.specs.CutterState.{CutterState}
+use Rattle.ov_cut.specs.Reading.{IsFed}
 use Rattle.ov_outbox.specs.Frames.{waiting_for}
 use Rattle.ov_core.specs.Following.{CoreState, Timed}
 use Rattle.ov_core.specs.Passing.{is_due}
 use Rattle.ov_streams.specs.Entering.{ExtendsByStep}
-use Rattle.ov_streams.specs.Feeding.{IsFed, FedPiece, EntersPiece}
+use Rattle.ov_streams.specs.Feeding.{FedPiece, EntersPiece}
 use Rattle.ov_ends.specs.Writing.{WritesOf}
 use Rattle.ov_serve.specs.Serving.{ServerState, ExtendsHanding, Pieces, ArePieces, bytes_of, events_of, TellsMoments, PassesWhereDue}
 

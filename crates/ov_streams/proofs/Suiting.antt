@@ -18,8 +18,10 @@ use Rattle.ov_specs.specs.machine.Streams as streams
 use Rattle.ov_specs.specs.machine.Streams.{Streams, no_streams, with_fed, Feeds, Expands, delivered, fed_state}
 use Rattle.ov_specs.proofs.laws.Expanding.{one_more}
 use Rattle.ov_specs.proofs.laws.Turns.{MayClose, turn_open, turn_tick, turn_close_other, turn_take_other}
-use Rattle.ov_laws.proofs.Requests.{asked_nothing, not_fed_yet}
+use Rattle.ov_laws.proofs.Requests.{not_fed_yet}
 use Rattle.ov_cut.specs.CutterState.{CutterState, StandsFor}
+use Rattle.ov_cut.specs.Reading.{IsFed}
+use Rattle.ov_cut.proofs.Pieces.{fed_none}
 use Rattle.ov_sessions.specs.declared.session.Session.{Session}
 use Rattle.ov_history.specs.declared.event.Stepped.TheVariants as answer
 use Rattle.ov_streams.specs.declared.event.StreamEvent.{StreamEvent}
@@ -28,7 +30,7 @@ use Rattle.ov_sessions.specs.Sessions.{most_sessions, beyond_serials, serial_lef
 use Rattle.ov_core.specs.Stepping.{IsEntered, Closes, is_full, closing}
 use Rattle.ov_core.proofs.Counted.{counts_none, counts_on}
 use Rattle.ov_sessions.proofs.Keying.{same_serial}
-use Rattle.ov_streams.specs.Feeding.{IsFed, EntersPiece, fed_piece}
+use Rattle.ov_streams.specs.Feeding.{EntersPiece, fed_piece}
 use Rattle.ov_streams.specs.Running.{StreamsState, FollowsEvents, RunsEvents, HasCutter, cutter_of, stream_event_view, stream_events_view}
 use Rattle.ov_streams.proofs.Entering.{enters_none}
 
@@ -163,11 +165,7 @@ forgotten_closed old cutters is =
 -- ---- a session opens
 
 pub first_fed : (stream : List ℕ) (cutter : CutterState) → stream ≡ [] → StandsFor [] [] cutter → IsFed stream cutter
-first_fed stream cutter none stands = record {
-  given = [];
-  stands = subst (λ (l : List ℕ). StandsFor l [] cutter) (sym none) stands;
-  whole = ap (λ (l : List ℕ). (asked l).damaged) none ∙ ap (λ a. a.damaged) asked_nothing;
-}
+first_fed stream cutter none stands = subst (λ (l : List ℕ). IsFed l cutter) (sym none) (fed_none cutter stands)
 
 module _ {K D : Type 0} (cutter : CutterState) (old : StreamsState K D) (cutters : Cutters) (updates : UpdatesCutter old.core.state.next (Some cutter) old.cutters cutters) (stands : StandsFor [] [] cutter) where
   -- the next session has a cutter, which was given nothing

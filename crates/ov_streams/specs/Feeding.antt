@@ -1,16 +1,11 @@
 -- What comes of a piece of an open session's stream.
-use Rattle.std.specs.Prelude.{◌≡◌, ℕ, ◌++◌, List, true, false}
+use Rattle.std.specs.Prelude.{◌≡◌, ℕ, ◌++◌, List, true}
 use Rattle.ov_specs.specs.wire.Message.{Message, asked}
 use Rattle.ov_specs.specs.machine.Machine.{Entry, is_open}
 use Rattle.ov_specs.specs.machine.Streams.{Feeds, delivered}
-use Rattle.ov_cut.specs.CutterState.{CutterState, StandsFor}
+use Rattle.ov_cut.specs.CutterState.{CutterState}
+use Rattle.ov_cut.specs.Reading.{IsFed}
 use Rattle.ov_core.specs.Following.{CoreState, Extends}
-
--- the cutter was given this stream, which is not damaged
-pub record IsFed (stream : List ℕ) (cutter : CutterState) : Type 0 where
-  pub given : List (List ℕ)
-  pub stands : StandsFor stream given cutter
-  pub whole : (asked stream).damaged ≡ false
 
 -- a piece of a session's stream: the session, its stream before the piece, and the bytes of the piece
 pub record FedPiece : Type 0 where

@@ -4,6 +4,7 @@ use Rattle.std.specs.Map.{lookup}
 use Rattle.std.specs.BTreeMap.{is_at}
 use Rattle.std.specs.Ordering.{nat_cmp}
 use Rattle.ov_cut.specs.CutterState.{CutterState}
+use Rattle.ov_cut.specs.Reading.{IsFed}
 use Rattle.ov_specs.specs.machine.Machine as machine
 use Rattle.ov_specs.specs.machine.Machine.{Entry, State, opening, is_open}
 use Rattle.ov_specs.specs.schema.SchemaTypes.{Schema}
@@ -15,7 +16,6 @@ use Rattle.ov_core.specs.Following.{CoreState, Follows, CountsWork}
 use Rattle.ov_core.specs.Stepping.{RefusesStep}
 use Rattle.ov_streams.specs.declared.event.StreamEvent.{StreamEvent}
 use Rattle.ov_streams.specs.declared.event.StreamEvent.TheVariants.{Open, Feed, Finish, Tick}
-use Rattle.ov_streams.specs.Feeding.{IsFed}
 
 -- an event of the code as that of the definitions
 abbrev pub stream_event_view : StreamEvent → streams.StreamEvent

@@ -1,4 +1,4 @@
 pub mod Crossing
 pub mod Frames
-pub mod Texts
+pub mod Bringing
 pub mod Streams

@@ -5,11 +5,12 @@ use Rattle.ov_ends.specs.States.{SourceState}
 use Rattle.ov_cut.specs.CutterState.{CutterState, StandsFor}
 use Rattle.ov_ends.specs.Ends.{one_more, met_end, KeepsInput}
 use Rattle.ov_ends.proofs.Tellings.{input-more, input-same}
-use Rattle.ov_workers.specs.declared.cause.ReadCause.{ReadCause}
-use Rattle.ov_workers.specs.declared.cause.ReadCause.TheVariants.{InputEnded, ReadFault, Damaged, Memory}
+use Rattle.ov_cut.specs.declared.fault.StreamFault.{StreamFault}
+use Rattle.ov_cut.specs.declared.fault.StreamFault.TheVariants as fault
+use Rattle.ov_workers.specs.declared.cause.ReadCause.TheVariants.{InputEnded, ReadFault}
 use Rattle.ov_workers.specs.Reading.{Item}
-use Rattle.ov_workers.specs.Bringing.{IsBrought, BroughtSoFar, ReadsToEnd}
-use Rattle.ov_workers.proofs.Texts.{brought_none, at_input_end, at_read_fault}
+use Rattle.ov_workers.specs.Bringing.{IsBrought, BroughtSoFar, ReadsToEnd, cause_of_fault}
+use Rattle.ov_workers.proofs.Bringing.{brought_none, at_input_end, at_read_fault}
 
 -- the stream was read so far, which is not damaged, and the messages that it asks for were brought
 pub record ReadSoFar (old new : SourceState) (cutter : CutterState) (items : List Item) : Type 0 where
@@ -69,17 +70,15 @@ module _ (old mid new : SourceState) (cutter : CutterState) (items : List Item) 
     }
 
     -- the stream ended by itself
-    pub then_over : (cause : ReadCause) → BroughtSoFar (Some cause) (so_far.stream ++ piece) cutter' items' → ReadsToEnd cause old new items'
-    then_over InputEnded brought = absurd brought
-    then_over ReadFault brought = absurd brought
-    then_over Damaged brought = record {
+    pub then_over : (why : StreamFault) → BroughtSoFar (Some why) (so_far.stream ++ piece) cutter' items' → ReadsToEnd (cause_of_fault why) old new items'
+    then_over fault.Damaged brought = record {
       stream = so_far.stream ++ piece;
       read = read_on piece read;
       brought = brought;
       suits = good ∙ so_far.faults;
       input = input_on;
     }
-    then_over Memory brought = record {
+    then_over fault.Memory brought = record {
       stream = so_far.stream ++ piece;
       read = read_on piece read;
       brought = brought;

@@ -1,3 +1,5 @@
+use ov_cut::StreamFault;
+
 /// Why a reader ended. Its end mark reports this to the desk.
 #[derive(Clone, Copy, Debug, PartialEq, Eq, Drop)]
 pub enum ReadCause {
@@ -9,4 +11,18 @@ pub enum ReadCause {
     Damaged,
     /// An allocation for a message failed.
     Memory,
+}
+
+impl From<StreamFault> for ReadCause {
+    ghost use Rattle.ov_workers.specs.Bringing.{cause_of_fault};
+    ghost use Rattle.std.specs.Prelude.{◌≡◌};
+
+    ghost from_gives = { λ fault cause. cause ≡ cause_of_fault fault };
+
+    fn from(fault: StreamFault) -> ReadCause {
+        match fault {
+            StreamFault::Damaged => ReadCause::Damaged,
+            StreamFault::Memory => ReadCause::Memory,
+        }
+    }
 }

@@ -74,8 +74,8 @@ fn read_messages<R: Wait, L: Ledger, G: Gate, S: Source>(
             Some(0) => return ReadCause::InputEnded,
             Some(n) => {
                 let read = &piece[..n];
-                if let Some(cause) = bring_piece(common, inlet, &mut cutter, read) {
-                    return cause;
+                if let Some(fault) = bring_piece(common, inlet, &mut cutter, read) {
+                    return ReadCause::from(fault);
                 }
             }
             None => return ReadCause::ReadFault,

@@ -8,4 +8,6 @@ mod frames;
 #[cfg(test)]
 mod messages;
 #[cfg(test)]
+mod reading;
+#[cfg(test)]
 mod small_types;

@@ -4,9 +4,9 @@ use Rattle.ov_specs.specs.machine.Machine.{is_open}
 use Rattle.ov_streams.proofs.Entering.{EntersSome}
 use Rattle.ov_streams.proofs.feed.enter_all.Given as goal
 
-abbrev pub invariant-loop-text : goal.invariant-loop-text
-invariant-loop-text g l = record {
+abbrev pub invariant-loop-message : goal.invariant-loop-message
+invariant-loop-message g l = record {
   there : is_open l.core.state l.session.serial ≡ true;
   honest : g.K.Keeper.is_honest l.core.keeper → g.K.Keeper.is_honest l.fn.core.keeper;
-  entered : EntersSome l.moment l.session.serial l.fn.texts.items (into_iter_items l.text-iterator) l.fn.core l.core;
+  entered : EntersSome l.moment l.session.serial l.fn.messages.items (into_iter_items l.message-iterator) l.fn.core l.core;
 }

@@ -34,8 +34,8 @@ returns-in-Some-bring_piece-clause-brought g c =
     let new : SourceState = source_of g.S.Source c.read.new.self in
     let so_far = c.loop.invariant.read in
     let piece = take c.in-Some-read.n c.read.new.piece in
-    then_over old mid new c.loop.cutter (sent c.loop.inlet.ring) so_far c.read.ensures.input piece c.in-Some-read.ensures.trace c.in-Some-read.ensures.good
-    c.bring_piece.new.cutter (sent c.bring_piece.new.inlet.ring) c.in-Some-bring_piece.cause (c.in-Some-bring_piece.ensures.brought so_far.stream so_far.brought)
+    rw c.from.ensures (then_over old mid new c.loop.cutter (sent c.loop.inlet.ring) so_far c.read.ensures.input piece c.in-Some-read.ensures.trace c.in-Some-read.ensures.good
+    c.bring_piece.new.cutter (sent c.bring_piece.new.inlet.ring) c.in-Some-bring_piece.fault (c.in-Some-bring_piece.ensures.brought so_far.stream so_far.brought))
 
 pub loop-preserved : goal.loop-preserved
 loop-preserved g c =
