@@ -36,8 +36,8 @@ module _ (schema : Schema) (rows : Database) (suits : Suits schema rows) (whole 
           let r = at a in_a in
           let s = at b in_b in
           let alike =
-          shared_alike schema rows key a b r.0 s.0 (suits (key.table, a) r.0 r.1) (suits (key.table, b) s.0 s.1)
-          (record { differ = differ; at_a = r.1; at_b = s.1; is_a = r.2; is_b = s.2 }) in
+          shared_alike schema rows key a b (record { differ = differ; at_a = r; at_b = s }) (suits (key.table, a) r.0 r.1)
+          (suits (key.table, b) s.0 s.1) in
           let none = or_parts (list_any (has_too_many rows) (entries schema.tables)) (list_any (has_duplicates rows) (entries schema.tables)) (whole_is schema rows whole).limited in
           absurd (contradicts _ alike none.1)
 

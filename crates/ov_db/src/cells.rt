@@ -34,7 +34,7 @@ pub(crate) fn cells_of(alloc: Global, columns: &Columns) -> Result<Vec<Cell>, Al
     ensures cells { IfOk result (λ cells. cells_view cells.items ≡ cells_of columns.now) }
     ensures read { IfOk result (λ cells. AreCellsRead columns.now) }
 {
-    let mut cells = Vec::with_capacity(alloc, columns.values().len())?;
+    let mut cells = Vec::with_capacity(alloc, columns.names().len())?;
     for (name, datum) in columns.names().iter().zip(columns.values()) {
         cells.push(Cell {
             column: Text::from_str(alloc, name.as_str())?,

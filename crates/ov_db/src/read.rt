@@ -15,7 +15,7 @@ use crate::fault::OpenFault;
 use ov_atoms::{AtomFault, Datum, NoNames, read_datum};
 use ov_base::Text;
 use ov_keeper::{KeepFault, Line};
-use ov_rows::{BodyReader, Columns, NamedValues, Row};
+use ov_rows::{BodyReader, Columns, NamedValues, Row, ValueIter};
 use ov_schema::{Column, Schema, Table, is_own};
 use serde_json::Value;
 use std::alloc::Global;
@@ -83,22 +83,21 @@ fn row_by_guess(
 }
 
 /// Whether these are values for the columns except those that every row has by itself, one for each and in their order.
-pub(crate) fn are_values_for(columns: &[(Text, Column)], values: &[Datum]) -> bool
-    ensures { result ≡ are_values_for columns.now values.now }
+pub(crate) fn are_values_for(columns: &[(Text, Column)], values: ValueIter<'_>) -> bool
+    ensures { result ≡ are_values_for columns.now values.entry }
 {
     let mut rest = values;
     for (name, column) in columns {
         if !is_own(name.as_str()) {
-            let Some((datum, others)) = rest.split_first() else {
+            let Some(datum) = rest.next() else {
                 return false;
             };
             if !is_value_for(column, datum) {
                 return false;
             }
-            rest = others;
         }
     }
-    rest.is_empty()
+    rest.next().is_none()
 }
 
 /// Whether this is a value of the column's kinds that fits it.

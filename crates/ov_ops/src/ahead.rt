@@ -29,12 +29,12 @@ fn last_place(names: &[Text], row: &RowView<'_>) -> Option<usize> {
     None
 }
 
-/// How many values these rows have. Reads their lists, but no value.
+/// How many values these rows have. Reads the rows, but no value.
 fn values_in(rows: &[RowView<'_>]) -> usize {
     let mut count: usize = 0;
     for row in rows {
         let stored = row.row;
-        count = count.saturating_add(stored.columns.values().len());
+        count = count.saturating_add(stored.columns.names().len());
     }
     count
 }
@@ -57,7 +57,8 @@ fn room_at(rows: &[RowView<'_>], place: usize) -> usize {
     let mut room: usize = 0;
     for row in rows {
         let stored = row.row;
-        if let Some(datum) = stored.columns.values().get(place) {
+        let mut values = stored.columns.values();
+        if let Some(datum) = values.nth(place) {
             if let Some(atoms) = datum.atoms() {
                 room = room.saturating_add(room_of(atoms));
             }

@@ -5,3 +5,4 @@ pub mod Nesting
 pub mod Nested
 pub mod BodyText
 pub mod Listed
+pub mod Spreading

@@ -1,10 +1,11 @@
 -- The columns of the code as those of the definitions.
-use Rattle.std.proofs.Common.{◌≡◌, ℕ, List, [], ◌∷◌, map, length, zip, suc, ◌⊎◌, inl, inr, arith, Iter, Bool, true, false, cond, T, ◌&&◌, ◌||◌, Some, refl, sym, ap, subst, ◌∙◌, String, string_bytes, Global, Ordering, Less, Equal, Greater}
+use Rattle.std.proofs.Common.{◌≡◌, ℕ, List, [], ◌∷◌, map, length, zip, suc, ◌⊎◌, inl, inr, arith, Iter, Bor, Bool, true, false, cond, T, ◌&&◌, ◌||◌, Option, Some, None, refl, sym, ap, subst, ◌∙◌, String, string_bytes, Global, Ordering, Less, Equal, Greater}
 use Rattle.std.specs.declared.iter.Zip.{Zip}
 use Rattle.std.specs.BTreeMap.{insert_entry, is_at}
 use Rattle.std.specs.Cmp.Lexicographic.{pointwise, slice_cmp, nat_list_cmp_total}
 use Rattle.std.specs.FinMap.{find, put, is_sorted, empty, insert, get, keys, values, entries, entries_sorted, len-entries, len-empty, get-from_sorted, entries-from_sorted, entries-insert, same_entries_map}
 use Rattle.std.specs.FinMap.Entries.{below_all, by_order}
+use Rattle.std.specs.Iterator.{YieldsFirstRef}
 use Rattle.std.specs.List.{AllByRecursion}
 use Rattle.std.specs.List.Sorted.{IsStrictlySortedBy}
 use Rattle.std.specs.Map.{keys_of, lookup}
@@ -19,6 +20,8 @@ use Rattle.ov_rows.specs.Named.{named, columns_of, columns_at}
 use Rattle.ov_specs.proofs.laws.Sameness.{datum-tied}
 use Rattle.ov_specs.proofs.laws.Truths.{both_hold}
 use Rattle.std.proofs.lemmas.Bool.{or_parts}
+use Rattle.std.proofs.lemmas.Fn.{fronts}
+use Rattle.std.proofs.lemmas.Iterator.{zips}
 use Rattle.std.proofs.lemmas.List.{nil_from_length}
 use Rattle.std.proofs.lemmas.Map.Text.{is_eq-slice_cmp}
 
@@ -91,11 +94,28 @@ zip-entries [] = refl
 zip-entries (e ∷ es) = ap (λ xs. e ∷ xs) (zip-entries es)
 
 -- all pairs are still to come
-pub paired-start : (pairs given : Zip (Iter (String Global)) (Iter Datum)) (iterator : Iter (String Global)) (slice : List (String Global)) (names : List (List ℕ)) (values : List Datum)
-    → pairs ≡ given → given.a ≡ iterator → iterator.rest.now ≡ slice → map string_bytes slice ≡ names → given.b.rest.now ≡ values → paired pairs.a.rest.now pairs.b.rest.now ≡ zip names values
+pub paired-start : (pairs given : Zip (Iter (String Global)) (List Datum)) (iterator : Iter (String Global)) (slice : List (String Global)) (names : List (List ℕ)) (values : List Datum)
+    → pairs ≡ given → given.a ≡ iterator → iterator.rest.now ≡ slice → map string_bytes slice ≡ names → given.b ≡ values → paired pairs.a.rest.now pairs.b ≡ zip names values
 paired-start pairs given iterator slice names values is first rest are second =
-    ap (λ (z : Zip (Iter (String Global)) (Iter Datum)). paired z.a.rest.now z.b.rest.now) is
+    ap (λ (z : Zip (Iter (String Global)) (List Datum)). paired z.a.rest.now z.b) is
     ∙ (λ i. zip ((ap (λ (it : Iter (String Global)). map string_bytes it.rest.now) first ∙ ap (map string_bytes) rest ∙ are) i) (second i))
+
+-- an iterator over values gives the first of those that are left
+abbrev pub gives_first : List Datum → Option (Bor Datum) → List Datum → Type 0
+gives_first = YieldsFirstRef (λ values. values)
+
+module _ (s t : Zip (Iter (String Global)) (List Datum)) (r : Option (Bor (String Global) × Bor Datum)) where
+  -- the next pair has the first name and the first value that are left
+  pub paired-more : (p : Bor (String Global) × Bor Datum) → r ≡ Some p → zips fronts gives_first s r t → (s.a.rest.now ≡ p.0.now ∷ t.a.rest.now) × (s.b ≡ p.1.now ∷ t.b)
+  paired-more p is h = subst (λ o. zips fronts gives_first s o t) is h
+
+  -- there is no next pair if no name or no value is left
+  pub paired-empty : r ≡ None → zips fronts gives_first s r t → (s.a.rest.now ≡ []) ⊎ (s.b ≡ [])
+  paired-empty is h = by (subst (λ o. zips fronts gives_first s o t) is h)
+    where
+      by : ((u : Iter (String Global)) × fronts s.a None u) ⊎ ((u : List Datum) × gives_first s.b None u) → (s.a.rest.now ≡ []) ⊎ (s.b ≡ [])
+      by (inl a) = inl (nil_from_length _ a.1.0)
+      by (inr b) = inr b.1.0
 
 -- no pair is left if no name or no value is left
 pub paired-end : (names : List (String Global)) (values : List Datum) → (names ≡ []) ⊎ (values ≡ []) → paired names values ≡ []

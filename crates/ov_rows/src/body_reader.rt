@@ -42,7 +42,7 @@ impl BodyReader {
             → tree_of body.now ≡ Some (body_of columns)) }
     {
         let values = self.values(alloc, names, body)?;
-        let columns = Columns::listed(names, values)?;
+        let columns = Columns::listed(alloc, names, values)?;
         let text = columns.text_in(Vec::with_capacity(alloc, body.len())?)?;
         if text.as_slice() == body {
             Ok(columns)

@@ -4,6 +4,8 @@ ghost use Rattle.ov_specs.specs.rows.Database.{same_columns};
 ghost use Rattle.ov_rows.specs.Named.{place_from, DoAscend};
 
 use crate::named_values::NamedValues;
+use crate::value_iter::ValueIter;
+use crate::value_list::ValueList;
 use ov_atoms::Datum;
 use ov_base::ColumnNames;
 use std::alloc::{AllocError, Global};
@@ -12,7 +14,7 @@ use std::marker::Model;
 /// The values of a row (RFC 7047, 5.1, `<row>`), in the order of their columns' names, which other rows share.
 pub struct Columns {
     pub(crate) names: ColumnNames,
-    pub(crate) values: Vec<Datum>,
+    pub(crate) values: ValueList,
 }
 
 impl Model for Columns {
@@ -27,10 +29,9 @@ impl Model for Columns {
 
     ghost coded = { columns_code };
 
-    ghost view = { λ c. columns_at c.names c.values.items };
+    ghost view = { λ c. columns_at c.names c.values };
 
-    ghost invariant = { λ c. T (is_sorted name_cmp (zip c.names c.values.items))
-        × (length c.values.items ≡ length c.names) };
+    ghost invariant = { λ c. T (is_sorted name_cmp (zip c.names c.values)) × (length c.values ≡ length c.names) };
 }
 
 impl Drop for Columns {
@@ -50,19 +51,23 @@ impl Columns {
     {
         Ok(Columns {
             names: names.share()?,
-            values: named.into_values(alloc)?,
+            values: ValueList::of(alloc, named.into_values(alloc)?)?,
         })
     }
 
     /// These values, each in the column of the name at its place. The names are not copied.
-    pub(crate) fn listed(names: &ColumnNames, values: Vec<Datum>) -> Result<Columns, AllocError>
+    pub(crate) fn listed(
+        alloc: Global,
+        names: &ColumnNames,
+        values: Vec<Datum>,
+    ) -> Result<Columns, AllocError>
         requires ascend { DoAscend names.now }
         requires as_many { length values.items ≡ length names.now }
         ensures { IfOk result (λ columns. keys columns ≡ names.now) }
     {
         Ok(Columns {
             names: names.share()?,
-            values,
+            values: ValueList::of(alloc, values)?,
         })
     }
 
@@ -95,7 +100,7 @@ impl Columns {
     {
         Ok(Columns {
             names: self.names.share()?,
-            values: copied(alloc, self.values.as_slice())?,
+            values: self.values.copy(alloc)?,
         })
     }
 
@@ -104,23 +109,26 @@ impl Columns {
         ensures { IfOk result (λ named. named ≡ self.now) }
     {
         let mut named = NamedValues::new(alloc);
-        for (name, datum) in self.names.as_slice().iter().zip(&self.values) {
+        for (name, datum) in self.names.as_slice().iter().zip(self.values.iter()) {
             named.insert(String::from_str(alloc, name.as_str())?, datum.copy(alloc)?)?;
         }
         Ok(named)
     }
 
-    /// These values with this one in the column of this name (RFC 7047, 5.2.3). If there is such a column, nothing is
-    /// allocated and the names stay shared.
+    /// These values with this one in the column of this name (RFC 7047, 5.2.3). If there is such a column, the names stay
+    /// shared.
     pub fn with_value(self, alloc: Global, name: &str, datum: Datum) -> Result<Columns, AllocError>
         ensures { IfOk result (λ columns. columns ≡ insert self name.now datum) }
     {
         match place_of(self.names.as_slice(), name) {
             Some(place) => {
                 let Columns { names, values } = self;
-                let mut values = values;
+                let mut values = values.into_vec(alloc)?;
                 values[place] = datum;
-                Ok(Columns { names, values })
+                Ok(Columns {
+                    names,
+                    values: ValueList::of(alloc, values)?,
+                })
             }
             None => {
                 let mut named = self.to_named(alloc)?;
@@ -138,17 +146,17 @@ impl Columns {
     }
 
     /// The values, in ascending order of the names of their columns.
-    pub fn values(&self) -> &[Datum]
-        ensures { result.now ≡ values self.now }
+    pub fn values(&self) -> ValueIter<'_>
+        ensures { result ≡ values self.now }
     {
-        self.values.as_slice()
+        self.values.iter()
     }
 
     /// The value of the column of this name.
     pub fn get(&self, name: &str) -> Option<&Datum>
         ensures { option_copied result ≡ get self.now name.now }
     {
-        for (known, datum) in self.names.as_slice().iter().zip(&self.values) {
+        for (known, datum) in self.names.as_slice().iter().zip(self.values.iter()) {
             if name == known.as_str() {
                 return Some(datum);
             }
@@ -160,19 +168,8 @@ impl Columns {
     pub fn is_same(&self, other: &Columns) -> bool
         ensures { result ≡ same_columns (entries self.now) (entries other.now) }
     {
-        self.names.as_slice() == other.names.as_slice() && self.values == other.values
+        self.names.as_slice() == other.names.as_slice() && self.values.is_same(&other.values)
     }
-}
-
-/// Copies of these values.
-fn copied(alloc: Global, values: &[Datum]) -> Result<Vec<Datum>, AllocError>
-    ensures { IfOk result (λ copies. copies.items ≡ values.now) }
-{
-    let mut copies = Vec::with_capacity(alloc, values.len())?;
-    for datum in values {
-        copies.push(datum.copy(alloc)?)?;
-    }
-    Ok(copies)
 }
 
 /// The place of this name, or the first of them if it occurs more than once.

@@ -61,6 +61,7 @@ fn guess_set(alloc: Global, reader: &mut Reader<'_>) -> Result<Datum, AtomFault>
         let atom = guess_atom(alloc, reader)?;
         atoms.push(atom).map_err(AllocError::from)?;
     }
+    atoms.shrink_to_fit();
     Ok(Datum::of_atoms(atoms)?)
 }
 
@@ -71,6 +72,7 @@ fn guess_map(alloc: Global, reader: &mut Reader<'_>) -> Result<Datum, AtomFault>
         let pair = guess_pair(alloc, reader)?;
         pairs.push(pair).map_err(AllocError::from)?;
     }
+    pairs.shrink_to_fit();
     Datum::of_pairs(alloc, pairs)?.ok_or(AtomFault::Clash)
 }
 

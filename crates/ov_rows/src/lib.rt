@@ -13,6 +13,8 @@ mod row;
 mod row_view;
 mod rows;
 mod table_rows;
+mod value_iter;
+mod value_list;
 
 pub use body_reader::BodyReader;
 pub use columns::Columns;
@@ -23,3 +25,4 @@ pub use row::Row;
 pub use row_view::RowView;
 pub use rows::Rows;
 pub use table_rows::TableRows;
+pub use value_iter::ValueIter;

@@ -6,5 +6,5 @@ use Rattle.ov_conversion.proofs.limits.have_too_few.Given as goal
 
 abbrev pub invariant-loop-name : goal.invariant-loop-name
 invariant-loop-name l =
-    list_any (has_too_few l.table) (paired l.name-iterator.a.rest.now l.name-iterator.b.rest.now)
-    ≡ list_any (has_too_few l.table) (paired l.initial.name-iterator.a.rest.now l.initial.name-iterator.b.rest.now)
+    list_any (has_too_few l.table) (paired l.name-iterator.a.rest.now l.name-iterator.b)
+    ≡ list_any (has_too_few l.table) (paired l.initial.name-iterator.a.rest.now l.initial.name-iterator.b)

@@ -6,7 +6,7 @@ use Rattle.ov_db.proofs.cells.cells_of.Given as goal
 
 abbrev pub invariant-loop-name : goal.invariant-loop-name
 invariant-loop-name l = record {
-  made : map cell_entry l.cells.items ++ map written (paired l.name-iterator.a.rest.now l.name-iterator.b.rest.now)
-      ≡ map cell_entry l.initial.cells.items ++ map written (paired l.initial.name-iterator.a.rest.now l.initial.name-iterator.b.rest.now);
-  read : EachRead (paired l.name-iterator.a.rest.now l.name-iterator.b.rest.now) → EachRead (paired l.initial.name-iterator.a.rest.now l.initial.name-iterator.b.rest.now);
+  made : map cell_entry l.cells.items ++ map written (paired l.name-iterator.a.rest.now l.name-iterator.b)
+      ≡ map cell_entry l.initial.cells.items ++ map written (paired l.initial.name-iterator.a.rest.now l.initial.name-iterator.b);
+  read : EachRead (paired l.name-iterator.a.rest.now l.name-iterator.b) → EachRead (paired l.initial.name-iterator.a.rest.now l.initial.name-iterator.b);
 }

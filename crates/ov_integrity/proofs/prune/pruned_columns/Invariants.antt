@@ -5,5 +5,5 @@ use Rattle.ov_integrity.proofs.prune.pruned_columns.Given as goal
 
 abbrev pub invariant-loop-name : goal.invariant-loop-name
 invariant-loop-name l =
-    with_all_left l.stage.now l.table (paired l.name-iterator.a.rest.now l.name-iterator.b.rest.now) l.left
-    ≡ with_all_left l.stage.now l.table (paired l.initial.name-iterator.a.rest.now l.initial.name-iterator.b.rest.now) l.initial.left
+    with_all_left l.stage.now l.table (paired l.name-iterator.a.rest.now l.name-iterator.b) l.left
+    ≡ with_all_left l.stage.now l.table (paired l.initial.name-iterator.a.rest.now l.initial.name-iterator.b) l.initial.left

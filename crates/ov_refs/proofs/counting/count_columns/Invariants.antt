@@ -9,6 +9,6 @@ use Rattle.ov_refs.proofs.counting.count_columns.Given as goal
 abbrev pub invariant-loop-name : goal.invariant-loop-name
 invariant-loop-name l = record {
   small : l.count ≤ 2 ^ 64 - 1;
-  counted : in_64_bits (l.count + hits l.to (flat_map (λ c. column_targets (get l.table.columns c.0) c.1) (paired l.name-iterator.a.rest.now l.name-iterator.b.rest.now)))
-      ≡ in_64_bits (hits l.to (flat_map (λ c. column_targets (get l.table.columns c.0) c.1) (paired l.initial.name-iterator.a.rest.now l.initial.name-iterator.b.rest.now)));
+  counted : in_64_bits (l.count + hits l.to (flat_map (λ c. column_targets (get l.table.columns c.0) c.1) (paired l.name-iterator.a.rest.now l.name-iterator.b)))
+      ≡ in_64_bits (hits l.to (flat_map (λ c. column_targets (get l.table.columns c.0) c.1) (paired l.initial.name-iterator.a.rest.now l.initial.name-iterator.b)));
 }

@@ -7,5 +7,5 @@ use Rattle.ov_refs.proofs.targets.targets_in.Given as goal
 
 abbrev pub invariant-loop-name : goal.invariant-loop-name
 invariant-loop-name l =
-    l.targets.items ++ flat_map (λ c. column_targets (get l.table.columns c.0) c.1) (paired l.name-iterator.a.rest.now l.name-iterator.b.rest.now)
-    ≡ l.initial.targets.items ++ flat_map (λ c. column_targets (get l.table.columns c.0) c.1) (paired l.initial.name-iterator.a.rest.now l.initial.name-iterator.b.rest.now)
+    l.targets.items ++ flat_map (λ c. column_targets (get l.table.columns c.0) c.1) (paired l.name-iterator.a.rest.now l.name-iterator.b)
+    ≡ l.initial.targets.items ++ flat_map (λ c. column_targets (get l.table.columns c.0) c.1) (paired l.initial.name-iterator.a.rest.now l.initial.name-iterator.b)

@@ -9,16 +9,16 @@ pub returns-then-eq : goal.returns-then-eq
 returns-then-eq c =
     let xs = c.as_slice.result.now in
     let ys = c.as_slice-2.result.now in
-    let vs = c.self.inside.values.items in
-    let ws = c.other.inside.values.items in
-    c.eq-then-eq.ensures ∙ ap (λ b. b && pointwise (eq_by_cmp datum_cmp) vs ws) (sym c.if-eq.true ∙ c.eq.ensures)
+    let vs = c.self.inside.values in
+    let ws = c.other.inside.values in
+    c.is_same.ensures ∙ ap (λ b. b && pointwise (eq_by_cmp datum_cmp) vs ws) (sym c.if-eq.true ∙ c.eq.ensures)
     ∙ same-listed xs ys vs ws _ _ c.args.self.now c.args.other.now c.as_slice.ensures c.as_slice-2.ensures c.self.invariant c.other.invariant c.self.view_is c.other.view_is
 
 pub returns-else-eq : goal.returns-else-eq
 returns-else-eq c =
     let xs = c.as_slice.result.now in
     let ys = c.as_slice-2.result.now in
-    let vs = c.self.inside.values.items in
-    let ws = c.other.inside.values.items in
+    let vs = c.self.inside.values in
+    let ws = c.other.inside.values in
     c.if-eq.false ∙ ap (λ b. b && pointwise (eq_by_cmp datum_cmp) vs ws) (sym c.if-eq.false ∙ c.eq.ensures)
     ∙ same-listed xs ys vs ws _ _ c.args.self.now c.args.other.now c.as_slice.ensures c.as_slice-2.ensures c.self.invariant c.other.invariant c.self.view_is c.other.view_is

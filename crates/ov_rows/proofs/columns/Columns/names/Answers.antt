@@ -6,5 +6,5 @@ use Rattle.ov_rows.proofs.columns.Columns.names.Goals as goal
 
 pub returns : goal.returns
 returns c =
-    c.as_slice.ensures ∙ sym (keys-columns_at c.self.inside.names c.self.inside.values.items c.self.invariant.0 c.self.invariant.1)
+    c.as_slice.ensures ∙ sym (keys-columns_at c.self.inside.names c.self.inside.values c.self.invariant.0 c.self.invariant.1)
     ∙ ap (λ (columns : Columns). keys columns) c.self.view_is

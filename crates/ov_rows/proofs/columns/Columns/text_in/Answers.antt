@@ -1,5 +1,4 @@
 use Rattle.std.proofs.Common.{rules, ◌≡◌, ◌++◌, ◌∷◌, [], flat_map, sym, true, None, if◌then◌else◌, ap, ◌∙◌, append_assoc, append-nil}
-use Rattle.std.proofs.lemmas.Slice.Zip.{Zip-more, either_empty_from_Zip}
 use Rattle.std.specs.FinMap.{entries}
 use Rattle.json.specs.Token.{begin_object, end_object}
 use Rattle.json.specs.Print.{print}
@@ -11,14 +10,14 @@ use Rattle.ov_specs.specs.wire.Message.{tree_of}
 use Rattle.ov_atoms.specs.Tokens.{tokens_of}
 use Rattle.ov_rows.specs.Body.{body_of, column_tokens}
 use Rattle.ov_rows.proofs.BodyText.{body-tokens, body-text, body-reads-back}
-use Rattle.ov_rows.proofs.Names.{paired, paired-start, paired-end, entries-columns_at}
+use Rattle.ov_rows.proofs.Names.{paired, paired-start, paired-end, entries-columns_at, paired-more, paired-empty}
 use Rattle.ov_rows.proofs.columns.Columns.text_in.Goals as goal
 
 pub loop-name-preserved : goal.loop-name-preserved
 loop-name-preserved c =
     let later = c.next.new.self in
-    let rest = flat_map column_tokens (paired later.a.rest.now later.b.rest.now) in
-    let more = Zip-more c.loop-name.name-iterator later c.next.result _ c.in-Some.is c.next.ensures.steps in
+    let rest = flat_map column_tokens (paired later.a.rest.now later.b) in
+    let more = paired-more c.loop-name.name-iterator later c.next.result _ c.in-Some.is c.next.ensures.steps in
     record {
       before = c.in_ok-put_column.ensures.before ∙ c.loop-name.invariant.before;
       put_so_far = ap (λ ts. ts ++ rest) c.in_ok-put_column.ensures.ok
@@ -30,19 +29,19 @@ loop-name-preserved c =
 all_put : (c : goal.After-from_vec) → c.end_object.new.self.tokens ≡ tokens_of (body_of c.args.self.now)
 all_put c =
     let names = c.self.inside.names in
-    let values = c.self.inside.values.items in
+    let values = c.self.inside.values in
     let pairs = c.zip-name-items.ensures in
     let first = c.into_iter-name-iterator.result in
     let last = c.next.new.self in
-    let whole = paired-start _ _ _ _ names values c.into_iter-name-iterator.ensures.into_iter_gives pairs.first c.iter.ensures.rest c.as_slice.ensures pairs.second.0 in
-    let end = paired-end _ _ (either_empty_from_Zip c.loop-name.name-iterator last c.next.result c.in-None.is c.next.ensures.steps) in
+    let whole = paired-start _ _ _ _ names values c.into_iter-name-iterator.ensures.into_iter_gives pairs.first c.iter.ensures.rest c.as_slice.ensures (pairs.second ∙ c.iter-2.ensures) in
+    let end = paired-end _ _ (paired-empty c.loop-name.name-iterator last c.next.result c.in-None.is c.next.ensures.steps) in
     let begun : c.begin_object.new.self.tokens ≡ begin_object ∷ [] = search rules in
-    let put : c.loop-name.out.tokens ≡ c.begin_object.new.self.tokens ++ flat_map column_tokens (paired first.a.rest.now first.b.rest.now) =
+    let put : c.loop-name.out.tokens ≡ c.begin_object.new.self.tokens ++ flat_map column_tokens (paired first.a.rest.now first.b) =
     sym (append-nil c.loop-name.out.tokens) ∙ (sym (ap (λ es. c.loop-name.out.tokens ++ flat_map column_tokens es) end) ∙ c.loop-name.invariant.put_so_far) in
-    let columns : paired first.a.rest.now first.b.rest.now ≡ entries c.args.self.now =
+    let columns : paired first.a.rest.now first.b ≡ entries c.args.self.now =
     whole ∙ (sym (entries-columns_at names values c.self.invariant.0) ∙ ap (λ (columns : Columns). entries columns) c.self.view_is) in
     c.in_ok-end_object.ensures.ok
-    ∙ (ap (λ ts. ts ++ end_object ∷ []) (put ∙ ap (λ ts. ts ++ flat_map column_tokens (paired first.a.rest.now first.b.rest.now)) begun)
+    ∙ (ap (λ ts. ts ++ end_object ∷ []) (put ∙ ap (λ ts. ts ++ flat_map column_tokens (paired first.a.rest.now first.b)) begun)
     ∙ (ap (λ es. begin_object ∷ (flat_map column_tokens es ++ end_object ∷ [])) columns ∙ body-tokens c.args.self.now))
 
 text_is : (c : goal.After-from_vec) → c.from_vec.result ≡ print c.end_object.new.self.tokens

@@ -6,5 +6,5 @@ use Rattle.ov_rows.proofs.columns.Columns.values.Goals as goal
 
 pub returns : goal.returns
 returns c =
-    c.as_slice.ensures.value ∙ sym (values-columns_at c.self.inside.names c.self.inside.values.items c.self.invariant.0 c.self.invariant.1)
+    c.iter.ensures ∙ sym (values-columns_at c.self.inside.names c.self.inside.values c.self.invariant.0 c.self.invariant.1)
     ∙ ap (λ (columns : Columns). values columns) c.self.view_is
