@@ -66,7 +66,8 @@ impl<K: Keeper, D> Model for Core<K, D> {
       tries = c.live.tries;
     } };
 
-    ghost invariant = { λ c. HasHistory (state_of c.live c.moment) c.history × (c.live.waiting.untried ≡ []) };
+    ghost invariant = { λ c. HasHistory (state_of c.live c.moment) c.history
+        × (c.live.waiting.untried ≡ []) };
 }
 
 impl<K: Keeper + Drop, D: Drop> Drop for Core<K, D> {

@@ -47,7 +47,9 @@ impl<'a, R: SystemClock> Clock for MonotonicClock<'a, R> {
     ghost use Rattle.ov_pipes.specs.Clock.{milliseconds_between};
 
     // The moment is in milliseconds since the start, by the last reading, and never goes back.
-    ghost tells = { λ old moment new. (moment ≡ max old.last (milliseconds_between new.start new.reading)) × (new.last ≡ moment) × (new.start ≡ old.start) };
+    ghost tells = { λ old moment new.
+        (moment ≡ max old.last (milliseconds_between new.start new.reading))
+        × (new.last ≡ moment) × (new.start ≡ old.start) };
 
     fn now(&mut self) -> u64 {
         self.reading = Instant::now(self.system).ok();

@@ -37,7 +37,8 @@ impl Model for Waiting {
 
     ghost view = { λ w. record { untried = w.untried.items; outstanding = w.outstanding.items } };
 
-    ghost invariant = { λ w. HasRoom (deque_len w.untried) (deque_len w.outstanding) (deque_capacity w.untried) (deque_capacity w.outstanding) };
+    ghost invariant = { λ w. HasRoom (deque_len w.untried) (deque_len w.outstanding)
+        (deque_capacity w.untried) (deque_capacity w.outstanding) };
 }
 
 impl Waiting {

@@ -31,7 +31,8 @@ impl Model for Columns {
 
     ghost view = { λ c. columns_at c.names c.values };
 
-    ghost invariant = { λ c. T (is_sorted name_cmp (zip c.names c.values)) × (length c.values ≡ length c.names) };
+    ghost invariant = { λ c. T (is_sorted name_cmp (zip c.names c.values))
+        × (length c.values ≡ length c.names) };
 }
 
 impl Drop for Columns {

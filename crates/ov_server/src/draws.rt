@@ -26,7 +26,8 @@ impl<G: Rng> Draws for RandomDraws<G> {
     ghost use Rattle.rand_core.specs.Stream.{fill_bytes};
     ghost use Rattle.uuid.specs.Parts.{v4_of_fill};
 
-    ghost draws = { λ old id new. (id, G.stream new.generator) ≡ v4_of_fill (fill_bytes 16 (G.stream old.generator)) };
+    ghost draws = { λ old id new.
+        (id, G.stream new.generator) ≡ v4_of_fill (fill_bytes 16 (G.stream old.generator)) };
 
     fn draw(&mut self) -> Uuid {
         Uuid::new_v4(&mut self.generator)

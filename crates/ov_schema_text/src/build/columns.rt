@@ -1,5 +1,6 @@
 ghost use Rattle.std.specs.Prelude.{◌≡◌, IfOk, option_map};
-ghost use Rattle.ov_specs.specs.schema.Schema.{accepted_base, reference_of, max_of, accepted_type, accepted_column};
+ghost use Rattle.ov_specs.specs.schema.Schema.{accepted_base, reference_of, max_of, accepted_type};
+ghost use Rattle.ov_specs.specs.schema.Schema.{accepted_column};
 ghost use Rattle.ov_schema_text.specs.ShapeViews.{base_view, most_view, type_view, column_view};
 
 use crate::parse::base_shape::BaseShape;

@@ -3,7 +3,8 @@ ghost use Rattle.ov_specs.specs.schema.Schema.{accepted_table};
 ghost use Rattle.ov_schema.specs.Built.{indexes_in};
 ghost use Rattle.ov_schema.specs.NamedViews.{named_view};
 ghost use Rattle.ov_schema_text.specs.Built.{named_column_of};
-ghost use Rattle.ov_schema_text.specs.ShapeViews.{named_column_view, texts_view, indexes_view, table_view};
+ghost use Rattle.ov_schema_text.specs.ShapeViews.{named_column_view, texts_view, indexes_view};
+ghost use Rattle.ov_schema_text.specs.ShapeViews.{table_view};
 
 use crate::parse::table_shape::TableShape;
 use crate::parse::type_shape::ColumnShape;
@@ -35,7 +36,8 @@ fn columns_of(
     alloc: Global,
     shapes: &[(&str, ColumnShape<'_>)],
 ) -> Result<Vec<(String, Column)>, AllocError>
-    ensures { IfOk result (λ v. map named_view v.items ≡ map named_column_of (map named_column_view shapes.now)) }
+    ensures { IfOk result (λ v. map named_view v.items
+        ≡ map named_column_of (map named_column_view shapes.now)) }
 {
     let mut columns = Vec::new(alloc);
     for (name, shape) in shapes {

@@ -1,5 +1,7 @@
 ghost use Rattle.std.specs.Prelude.{◌≡◌, not, IfOk};
-ghost use Rattle.ov_specs.specs.schema.Schema.{is_real_type, is_uuid_type, has_table, above, below, is_some_and, is_bad_base_range, is_strength, is_bad_reference, is_bad_enum, is_weak, is_strong};
+ghost use Rattle.ov_specs.specs.schema.Schema.{is_real_type, is_uuid_type, has_table, above, below};
+ghost use Rattle.ov_specs.specs.schema.Schema.{is_some_and, is_bad_base_range, is_strength};
+ghost use Rattle.ov_specs.specs.schema.Schema.{is_bad_reference, is_bad_enum, is_weak, is_strong};
 ghost use Rattle.ov_schema_text.specs.ShapeViews.{name_view, base_view, schema_view};
 
 use crate::parse::base_shape::{BaseShape, TypeName};
@@ -36,7 +38,9 @@ impl BaseShape<'_> {
 
     /// Whether `refTable` names no table.
     pub(crate) fn has_unknown_table(&self, schema: &SchemaShape<'_>) -> bool
-        ensures { result ≡ is_some_and (λ name. not (has_table (schema_view schema.now) name)) (base_view self.now).ref_table }
+        ensures { result
+            ≡ is_some_and (λ name. not (has_table (schema_view schema.now) name))
+            (base_view self.now).ref_table }
     {
         match self.ref_table {
             Some(name) => !schema.has_table(name),

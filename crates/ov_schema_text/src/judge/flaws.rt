@@ -2,7 +2,8 @@ ghost use Rattle.std.specs.Prelude.{◌≡◌, IfOk};
 ghost use Rattle.std.specs.List.{list_any};
 ghost use Rattle.ov_specs.specs.schema.Schema.{any_table, has_table};
 ghost use Rattle.ov_schema_text.specs.ShapeViews.{base_view, column_view, table_view, schema_view};
-ghost use Rattle.ov_schema_text.specs.Flaws.{base_has, types_have, column_has, table_has, shape_has};
+ghost use Rattle.ov_schema_text.specs.Flaws.{base_has, types_have, column_has, table_has};
+ghost use Rattle.ov_schema_text.specs.Flaws.{shape_has};
 
 use crate::judge::base_rules::is_below;
 use crate::judge::names::is_bad_name;
@@ -50,7 +51,8 @@ impl BaseShape<'_> {
         schema: &SchemaShape<'_>,
         flaw: BaseFlaw,
     ) -> Result<bool, AllocError>
-        ensures { IfOk result (λ b. b ≡ base_has (schema_view schema.now) flaw (base_view self.now)) }
+        ensures { IfOk result (λ b. b
+            ≡ base_has (schema_view schema.now) flaw (base_view self.now)) }
     {
         match flaw {
             BaseFlaw::Range => Ok(self.is_bad_range()),
@@ -70,7 +72,8 @@ impl ColumnShape<'_> {
         name: &str,
         flaw: ColumnFlaw,
     ) -> Result<bool, AllocError>
-        ensures { IfOk result (λ b. b ≡ column_has (schema_view schema.now) flaw name.now (column_view self.now)) }
+        ensures { IfOk result (λ b. b
+            ≡ column_has (schema_view schema.now) flaw name.now (column_view self.now)) }
     {
         match flaw {
             ColumnFlaw::Name => Ok(is_bad_name(name)),
@@ -87,7 +90,8 @@ impl ColumnShape<'_> {
         schema: &SchemaShape<'_>,
         flaw: BaseFlaw,
     ) -> Result<bool, AllocError>
-        ensures { IfOk result (λ b. b ≡ types_have (schema_view schema.now) flaw (column_view self.now).type_of) }
+        ensures { IfOk result (λ b. b
+            ≡ types_have (schema_view schema.now) flaw (column_view self.now).type_of) }
     {
         if self.type_of.key.has(alloc, schema, flaw)? {
             return Ok(true);
@@ -107,7 +111,8 @@ impl TableShape<'_> {
         name: &str,
         flaw: TableFlaw,
     ) -> Result<bool, AllocError>
-        ensures { IfOk result (λ b. b ≡ table_has (schema_view schema.now) flaw name.now (table_view self.now)) }
+        ensures { IfOk result (λ b. b
+            ≡ table_has (schema_view schema.now) flaw name.now (table_view self.now)) }
     {
         match flaw {
             TableFlaw::Name => Ok(is_bad_name(name)),
@@ -125,7 +130,9 @@ impl TableShape<'_> {
         schema: &SchemaShape<'_>,
         flaw: ColumnFlaw,
     ) -> Result<bool, AllocError>
-        ensures { IfOk result (λ b. b ≡ list_any (λ c. column_has (schema_view schema.now) flaw c.0 c.1) (table_view self.now).columns) }
+        ensures { IfOk result (λ b. b
+            ≡ list_any (λ c. column_has (schema_view schema.now) flaw c.0 c.1)
+            (table_view self.now).columns) }
     {
         for (name, column) in &self.columns {
             if column.has(alloc, schema, *name, flaw)? {

@@ -10,7 +10,8 @@ impl TableShape<'_> {
     /// Whether an index is empty, names something that is not a column, a column twice, or an ephemeral column (RFC 7047, 3.2,
     /// `<table-schema>`).
     pub(crate) fn has_bad_index(&self) -> bool
-        ensures { result ≡ list_any (is_bad_index (table_view self.now)) (table_view self.now).indexes }
+        ensures { result
+            ≡ list_any (is_bad_index (table_view self.now)) (table_view self.now).indexes }
     {
         for index in &self.indexes {
             if self.is_bad_index(index.as_slice()) {
@@ -28,7 +29,9 @@ impl TableShape<'_> {
 
     /// Whether a name is not that of a column, or is that of an ephemeral one.
     fn names_unlasting(&self, index: &[&str]) -> bool
-        ensures { result ≡ list_any (λ name. not (is_lasting (column_named (table_view self.now).columns name))) (texts_view index.now) }
+        ensures { result
+            ≡ list_any (λ name. not (is_lasting (column_named (table_view self.now).columns name)))
+            (texts_view index.now) }
     {
         for name in index {
             if !self.is_lasting(*name) {

@@ -1,5 +1,6 @@
 ghost use Rattle.std.specs.Prelude.{◌≡◌, Some, IfOk, option_map};
-ghost use Rattle.ov_specs.specs.schema.Schema.{any_base, any_type, has_bad_name, has_bad_version, has_bad_range, is_strong_weak, refusal_of_shape};
+ghost use Rattle.ov_specs.specs.schema.Schema.{any_base, any_type, has_bad_name, has_bad_version};
+ghost use Rattle.ov_specs.specs.schema.Schema.{has_bad_range, is_strong_weak, refusal_of_shape};
 ghost use Rattle.ov_schema_text.specs.ShapeViews.{schema_view};
 ghost use Rattle.ov_schema_text.specs.Flaws.{base_has};
 ghost use Rattle.ov_schema_text.specs.FaultViews.{refusal_view};
@@ -13,7 +14,8 @@ use std::alloc::{AllocError, Global};
 impl SchemaShape<'_> {
     /// The first refusal, in their order, that applies anywhere.
     pub fn refusal(&self, alloc: Global) -> Result<Option<SchemaFault>, AllocError>
-        ensures { IfOk result (λ o. option_map refusal_view o ≡ option_map Some (refusal_of_shape (schema_view self.now))) }
+        ensures { IfOk result (λ o. option_map refusal_view o
+            ≡ option_map Some (refusal_of_shape (schema_view self.now))) }
     {
         if self.has_bad_name(alloc)? {
             return Ok(Some(SchemaFault::BadName));
@@ -91,7 +93,8 @@ impl SchemaShape<'_> {
 
     /// Whether the keys or the values of some column have the flaw.
     fn has_base(&self, alloc: Global, flaw: BaseFlaw) -> Result<bool, AllocError>
-        ensures { IfOk result (λ b. b ≡ any_base (base_has (schema_view self.now) flaw) (schema_view self.now)) }
+        ensures { IfOk result (λ b. b
+            ≡ any_base (base_has (schema_view self.now) flaw) (schema_view self.now)) }
     {
         self.has(alloc, TableFlaw::Column(ColumnFlaw::Base(flaw)))
     }

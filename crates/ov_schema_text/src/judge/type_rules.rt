@@ -1,5 +1,6 @@
 ghost use Rattle.std.specs.Prelude.{◌≡◌, ◌||◌};
-ghost use Rattle.ov_specs.specs.schema.Schema.{is_some_and, is_bad_most, is_bad_count, is_weak, is_strong_weak};
+ghost use Rattle.ov_specs.specs.schema.Schema.{is_some_and, is_bad_most, is_bad_count, is_weak};
+ghost use Rattle.ov_specs.specs.schema.Schema.{is_strong_weak};
 ghost use Rattle.ov_schema_text.specs.ShapeViews.{base_view, most_view, type_view};
 
 use crate::parse::type_shape::{Most, TypeShape};
@@ -46,7 +47,8 @@ impl TypeShape<'_> {
 
     /// Whether it holds weak references.
     pub fn is_weak(&self) -> bool
-        ensures { result ≡ (is_weak (base_view self.now.key) || is_some_and is_weak (type_view self.now).value) }
+        ensures { result
+            ≡ (is_weak (base_view self.now.key) || is_some_and is_weak (type_view self.now).value) }
     {
         let is_weak_value = match &self.value {
             Some(value) => value.is_weak(),

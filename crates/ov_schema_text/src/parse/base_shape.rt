@@ -1,6 +1,8 @@
 ghost use Rattle.std.specs.Prelude.{◌≡◌, option_map};
 ghost use Rattle.serde_json.specs.View.{view};
-ghost use Rattle.ov_specs.specs.schema.SchemaShape.{type_name, is_integer_type, is_text_type, plain_base, ranges_fit, base_members, base_shape};
+ghost use Rattle.ov_specs.specs.schema.SchemaShape.{type_name, is_integer_type, is_text_type};
+ghost use Rattle.ov_specs.specs.schema.SchemaShape.{plain_base, ranges_fit, base_members};
+ghost use Rattle.ov_specs.specs.schema.SchemaShape.{base_shape};
 ghost use Rattle.ov_specs.specs.schema.Schema.{kind_named};
 ghost use Rattle.ov_atoms.specs.Views.{kind_view};
 ghost use Rattle.ov_schema_text.specs.ShapeViews.{name_view, base_view};

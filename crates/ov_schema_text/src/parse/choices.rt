@@ -19,7 +19,8 @@ pub fn read_choices(
     of: TypeName,
     choices: Option<&Value>,
 ) -> Result<Option<Datum>, AllocError>
-    ensures { IfOk result (λ o. option_map set_in o ≡ choices_of (name_view of) (option_map (λ v. view v.now) choices.entry)) }
+    ensures { IfOk result (λ o. option_map set_in o
+        ≡ choices_of (name_view of) (option_map (λ v. view v.now) choices.entry)) }
 {
     match of {
         TypeName::Kind(kind) => match choices {
@@ -31,7 +32,8 @@ pub fn read_choices(
 }
 
 fn read_set(alloc: Global, kind: AtomKind, tree: &Value) -> Result<Option<Datum>, AllocError>
-    ensures { IfOk result (λ o. option_map set_in o ≡ option_map set_of (atoms_read (λ name. None) (kind_view kind) (view tree.now))) }
+    ensures { IfOk result (λ o. option_map set_in o
+        ≡ option_map set_of (atoms_read (λ name. None) (kind_view kind) (view tree.now))) }
 {
     match read_datum(alloc, tree, Kinds::Single(kind), &NoNames) {
         Ok(datum) => Ok(Some(datum)),

@@ -7,21 +7,24 @@ use serde_json::{Map, Value};
 
 /// The text at a name.
 pub(crate) fn text_at<'a>(tree: &'a Value, name: &str) -> Option<&'a str>
-    ensures { option_map (λ text. text.now) result ≡ option_and_then as_str (get name.now (view tree.now)) }
+    ensures { option_map (λ text. text.now) result
+        ≡ option_and_then as_str (get name.now (view tree.now)) }
 {
     tree.get(name)?.as_str()
 }
 
 /// The members of the object at a name.
 pub(crate) fn members_at<'a>(tree: &'a Value, name: &str) -> Option<&'a Map<String, Value>>
-    ensures { option_map (λ members. members_view members.now.entries) result ≡ option_and_then as_object (get name.now (view tree.now)) }
+    ensures { option_map (λ members. members_view members.now.entries) result
+        ≡ option_and_then as_object (get name.now (view tree.now)) }
 {
     tree.get(name)?.as_object()
 }
 
 /// The text at a name, if there is one. The outer `None`: something else is there.
 pub(crate) fn optional_text<'a>(tree: &'a Value, name: &str) -> Option<Option<&'a str>>
-    ensures { option_map (λ o. option_map (λ text. text.now) o) result ≡ optional as_str (get name.now (view tree.now)) }
+    ensures { option_map (λ o. option_map (λ text. text.now) o) result
+        ≡ optional as_str (get name.now (view tree.now)) }
 {
     match tree.get(name) {
         Some(member) => Some(Some(member.as_str()?)),

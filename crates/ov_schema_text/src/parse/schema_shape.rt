@@ -50,7 +50,8 @@ fn tables_of<'a>(
     alloc: Global,
     members: &'a Map<String, Value>,
 ) -> Result<Option<Vec<(&'a str, TableShape<'a>)>>, AllocError>
-    ensures { IfOk result (λ o. option_map (λ v. map named_table_view v.items) o ≡ each_member table_shape (members_view members.now.entries)) }
+    ensures { IfOk result (λ o. option_map (λ v. map named_table_view v.items) o
+        ≡ each_member table_shape (members_view members.now.entries)) }
 {
     let mut tables = Vec::new(alloc);
     for (name, member) in members.iter() {

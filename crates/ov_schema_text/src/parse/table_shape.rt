@@ -2,9 +2,11 @@ ghost use Rattle.std.specs.Prelude.{◌≡◌, IfOk, [], map, option_map, unwrap
 ghost use Rattle.serde_json.specs.Find.{get, as_str};
 ghost use Rattle.serde_json.specs.View.{view, items_view, members_view};
 ghost use Rattle.ov_specs.specs.values.Reading.{each_read};
-ghost use Rattle.ov_specs.specs.schema.SchemaShape.{optional, each_member, column_shape, table_shape};
+ghost use Rattle.ov_specs.specs.schema.SchemaShape.{optional, each_member, column_shape};
+ghost use Rattle.ov_specs.specs.schema.SchemaShape.{table_shape};
 ghost use Rattle.ov_specs.specs.values.Reading.{list_read};
-ghost use Rattle.ov_schema_text.specs.ShapeViews.{named_column_view, texts_view, indexes_view, table_view};
+ghost use Rattle.ov_schema_text.specs.ShapeViews.{named_column_view, texts_view, indexes_view};
+ghost use Rattle.ov_schema_text.specs.ShapeViews.{table_view};
 
 use crate::parse::member::{members_at, optional_bool, optional_number};
 use crate::parse::type_shape::ColumnShape;
@@ -54,7 +56,8 @@ fn columns_of<'a>(
     alloc: Global,
     members: &'a Map<String, Value>,
 ) -> Result<Option<Vec<(&'a str, ColumnShape<'a>)>>, AllocError>
-    ensures { IfOk result (λ o. option_map (λ v. map named_column_view v.items) o ≡ each_member column_shape (members_view members.now.entries)) }
+    ensures { IfOk result (λ o. option_map (λ v. map named_column_view v.items) o
+        ≡ each_member column_shape (members_view members.now.entries)) }
 {
     let mut columns = Vec::new(alloc);
     for (name, member) in members.iter() {
@@ -71,7 +74,9 @@ fn optional_indexes<'a>(
     alloc: Global,
     tree: &'a Value,
 ) -> Result<Option<Vec<Vec<&'a str>>>, AllocError>
-    ensures { IfOk result (λ o. option_map (λ v. indexes_view v.items) o ≡ option_map (λ o2. unwrap_or o2 []) (optional (list_read (list_read as_str)) (get (codes "indexes") (view tree.now)))) }
+    ensures { IfOk result (λ o. option_map (λ v. indexes_view v.items) o
+        ≡ option_map (λ o2. unwrap_or o2 [])
+        (optional (list_read (list_read as_str)) (get (codes "indexes") (view tree.now)))) }
 {
     match tree.get("indexes") {
         Some(member) => match member.as_array() {
@@ -86,7 +91,8 @@ fn indexes_of<'a>(
     alloc: Global,
     items: &'a Vec<Value>,
 ) -> Result<Option<Vec<Vec<&'a str>>>, AllocError>
-    ensures { IfOk result (λ o. option_map (λ v. indexes_view v.items) o ≡ each_read (list_read as_str) (items_view items.now.items)) }
+    ensures { IfOk result (λ o. option_map (λ v. indexes_view v.items) o
+        ≡ each_read (list_read as_str) (items_view items.now.items)) }
 {
     let mut indexes = Vec::new(alloc);
     for item in items {
@@ -100,7 +106,8 @@ fn indexes_of<'a>(
 
 /// The texts of an array, or `None` if it is not an array of texts.
 fn texts_of<'a>(alloc: Global, tree: &'a Value) -> Result<Option<Vec<&'a str>>, AllocError>
-    ensures { IfOk result (λ o. option_map (λ v. texts_view v.items) o ≡ list_read as_str (view tree.now)) }
+    ensures { IfOk result (λ o. option_map (λ v. texts_view v.items) o
+        ≡ list_read as_str (view tree.now)) }
 {
     match tree.as_array() {
         Some(items) => each_text(alloc, items),
@@ -109,7 +116,8 @@ fn texts_of<'a>(alloc: Global, tree: &'a Value) -> Result<Option<Vec<&'a str>>, 
 }
 
 fn each_text<'a>(alloc: Global, items: &'a Vec<Value>) -> Result<Option<Vec<&'a str>>, AllocError>
-    ensures { IfOk result (λ o. option_map (λ v. texts_view v.items) o ≡ each_read as_str (items_view items.now.items)) }
+    ensures { IfOk result (λ o. option_map (λ v. texts_view v.items) o
+        ≡ each_read as_str (items_view items.now.items)) }
 {
     let mut texts = Vec::new(alloc);
     for item in items {

@@ -1,7 +1,8 @@
 ghost use Rattle.std.specs.Prelude.{◌≡◌, None, option_map};
 ghost use Rattle.serde_json.specs.Find.{get};
 ghost use Rattle.serde_json.specs.View.{view};
-ghost use Rattle.ov_specs.specs.schema.SchemaShape.{optional, base_shape, most, type_members, type_shape, column_shape};
+ghost use Rattle.ov_specs.specs.schema.SchemaShape.{optional, base_shape, most, type_members};
+ghost use Rattle.ov_specs.specs.schema.SchemaShape.{type_shape, column_shape};
 ghost use Rattle.ov_schema_text.specs.ShapeViews.{base_view, most_view, type_view, column_view};
 
 use crate::parse::base_shape::{BaseShape, TypeName};
@@ -49,7 +50,8 @@ impl<'a> TypeShape<'a> {
 
     /// The type of scalars.
     pub fn plain(key: BaseShape<'a>) -> TypeShape<'a>
-        ensures { type_view result ≡ record { key = base_view key.entry; value = None; min = None; max = None } }
+        ensures { type_view result
+            ≡ record { key = base_view key.entry; value = None; min = None; max = None } }
     {
         TypeShape {
             key,
@@ -73,7 +75,8 @@ impl<'a> TypeShape<'a> {
 
 /// The base type at a name, if there is one. The outer `None`: something else is there.
 fn optional_base<'a>(tree: &'a Value, name: &str) -> Option<Option<BaseShape<'a>>>
-    ensures { option_map (λ o. option_map base_view o) result ≡ optional base_shape (get name.now (view tree.now)) }
+    ensures { option_map (λ o. option_map base_view o) result
+        ≡ optional base_shape (get name.now (view tree.now)) }
 {
     match tree.get(name) {
         Some(member) => Some(Some(BaseShape::read(member)?)),
@@ -83,7 +86,8 @@ fn optional_base<'a>(tree: &'a Value, name: &str) -> Option<Option<BaseShape<'a>
 
 /// The maximum count at a name, if there is one. The outer `None`: something else is there.
 fn optional_most(tree: &Value, name: &str) -> Option<Option<Most>>
-    ensures { option_map (λ o. option_map most_view o) result ≡ optional most (get name.now (view tree.now)) }
+    ensures { option_map (λ o. option_map most_view o) result
+        ≡ optional most (get name.now (view tree.now)) }
 {
     match tree.get(name) {
         Some(member) => Some(Some(Most::read(member)?)),
