@@ -86,7 +86,7 @@ put-unmarked m shared datum own none =
     ap (λ n. spread n shared (datum ∷ own)) none ∙ unmarked shared (datum ∷ own)
     ∙ ap (λ later. datum ∷ later) (sym (unmarked shared own) ∙ ap (λ n. spread n shared own) (sym none))
 
--- ---- how large the marks become, if so many columns come before
+-- ---- the bound on the marks of the columns from a place on
 
 pub fits-one_more : (m n mark : ℕ) → n < 64 → m < 2 ^ (64 - (n + 1)) → mark ≤ 1 → m * 2 + mark < 2 ^ (64 - n)
 fits-one_more m n mark few small one =

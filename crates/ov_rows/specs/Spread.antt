@@ -7,14 +7,15 @@ abbrev pub before : Option Datum → List Datum → List Datum
 before None rest = []
 before (Some datum) rest = datum ∷ rest
 
--- the values of the columns, of which so many have a mark, the lowest for the first: of a marked column the shared value, of any other the next of the row's own
+-- The values of the columns. Each of the first `columns` has a bit of the marks, the lowest for the first: a column whose bit is
+-- set has the shared value, and any other the next of the row's own.
 abbrev pub spread_over : ℕ → ℕ → Option Datum → List Datum → List Datum
 spread_over zero marks shared own = own
 spread_over (suc columns) marks shared [] = if marks % 2 == 1 then before shared (spread_over columns (marks / 2) shared []) else []
 spread_over (suc columns) marks shared (datum ∷ own) =
     if marks % 2 == 1 then before shared (spread_over columns (marks / 2) shared (datum ∷ own)) else datum ∷ spread_over columns (marks / 2) shared own
 
--- the same, where 64 columns have a mark
+-- the same, with a bit for each of the first 64 columns
 unfoldable pub spread : ℕ → Option Datum → List Datum → List Datum
 spread marks shared own = spread_over 64 marks shared own
 

@@ -9,7 +9,7 @@ use ov_atoms::{AtomKind, Datum, Kinds};
 use std::alloc::{AllocError, Global};
 use std::marker::Model;
 
-/// How many columns of a row have a mark: each bit of a number.
+/// How many columns of a row can have a mark: the bits of a `u64`.
 const MARKED: usize = 64;
 
 /// The values of a row. In a table with many columns most values are the empty set, the default: of the first 64 columns,
@@ -130,8 +130,8 @@ fn count_shares(values: &[Datum], nothing: &Datum) -> usize {
     count
 }
 
-/// Puts a value before those of the row's own, where the last comes first, or gives its column a mark if it is this one. The
-/// result is the marks after that; `place` is the column's, counted from 0.
+/// Puts a value in front: at the end of `own`, which is in reverse order, or as a mark if it is the shared one. Returns the marks
+/// with it. `place` is that of its column, counted from 0.
 fn put_first(
     own: &mut Vec<Datum>,
     marks: u64,
@@ -155,7 +155,7 @@ fn put_first(
     Ok(marks * 2)
 }
 
-/// These values, of which those that are this one share it. `own` is empty: it receives the others.
+/// These values. Those that equal `nothing` share it; `own` is empty, and receives the others.
 fn shared(own: Vec<Datum>, values: Vec<Datum>, nothing: Datum) -> Result<ValueList, AllocError>
     requires { own.items ≡ [] }
     ensures { IfOk result (λ list. list ≡ values.items) }
