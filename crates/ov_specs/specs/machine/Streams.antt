@@ -36,19 +36,30 @@ pub record Delivery : Type 0 where
 abbrev pub delivered : ℕ → ℕ → Delivery
 delivered moment session = record { moment = moment; session = session }
 
+-- out of memory: the session is closed in place of what was due
+abbrev pub RunsOut : Delivery → State → Entry → Stepped → Type 0
+RunsOut d s entry t = IsEntryAt d.moment s (Close d.session Memory) entry t
+
+-- damage: the stream has it, and the session is closed for it
+abbrev pub IsDamage : Delivery → State → Bool → Entry → Stepped → Type 0
+IsDamage d s damaged entry t = (damaged ≡ true) × IsEntryAt d.moment s (Close d.session Damaged) entry t
+
+-- the next message of the session is taken
+abbrev pub TakesNext : Delivery → State → Message → Entry → Stepped → Type 0
+TakesNext d s message entry t = IsEntryAt d.moment s (Take d.session message) entry t
+
 -- The entries of the messages that a piece of the session's stream completes, and then of damage, if it is new. "Out of
 -- memory" may close the session in place of each, and after the last; nothing of a closed session follows.
 abbrev pub Feeds : Delivery → State → List Message → Bool → List Entry → State → Type 0
 Feeds d s [] false [] new = new ≡ s
 Feeds d s [] true [] new = ⊥
 Feeds d s [] damaged (e ∷ []) new =
-    (t : Stepped) × (IsEntryAt d.moment s (Close d.session Memory) e t
-    ⊎ ((damaged ≡ true) × IsEntryAt d.moment s (Close d.session Damaged) e t)) × (new ≡ t.state)
+    (t : Stepped) × (RunsOut d s e t ⊎ IsDamage d s damaged e t) × (new ≡ t.state)
 Feeds d s [] damaged (e ∷ f ∷ entries) new = ⊥
 Feeds d s (message ∷ messages) damaged [] new = ⊥
 Feeds d s (message ∷ messages) damaged (e ∷ entries) new =
-    (t : Stepped) × ((IsEntryAt d.moment s (Close d.session Memory) e t × (entries ≡ []) × (new ≡ t.state))
-    ⊎ (IsEntryAt d.moment s (Take d.session message) e t
+    (t : Stepped) × ((RunsOut d s e t × (entries ≡ []) × (new ≡ t.state))
+    ⊎ (TakesNext d s message e t
     × MatchBool (is_open t.state d.session) (Feeds d t.state messages damaged entries new) ((entries ≡ []) × (new ≡ t.state))))
 
 -- a state, and what its sessions were fed
