@@ -1,4 +1,4 @@
-ghost use Rattle.std.specs.Prelude.{◌≡◌, ℕ, []};
+ghost use Rattle.std.specs.Prelude.{ℕ, []};
 ghost use Rattle.ov_locks.specs.Calls.{lock_call_view};
 ghost use Rattle.ov_specs.specs.locks.Queues.{call_refusal};
 ghost use Rattle.ov_specs.specs.machine.Machine as spec;

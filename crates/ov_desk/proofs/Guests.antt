@@ -17,7 +17,7 @@ use Rattle.ov_core.proofs.Counted.{counts_on}
 use Rattle.ov_lanes.specs.Courses.{Course}
 use Rattle.ov_lanes.specs.Fitting.{FitsCourse}
 use Rattle.ov_lanes.specs.Since.{Since, course_of}
-use Rattle.ov_lanes.specs.Lanes.{IsAt, AreOver, SameLane, PutsAlone, StayAs, Serves, GoesOn}
+use Rattle.ov_lanes.specs.Lanes.{IsAt, AreOver, SameLane, PutsAlone, StayAs, Serves, DeskGoesOn}
 use Rattle.ov_lanes.specs.declared.desk.Desk.{Desk}
 use Rattle.ov_lanes.specs.declared.lane.Lane.{Lane}
 use Rattle.ov_lanes.proofs.Coming.{coming_away}
@@ -184,7 +184,7 @@ module _ {K D S W : Type 0} (ends : S → W → LinkState) where
       (guest_left s.since n l low serial fits left, fits.ends left.ended)
 
   -- What becomes of the sessions in one step, after which each session that it opened is open.
-  pub hosts_of : (at : ℕ) (old new : Desk K D) → GoesOn at old new → StayOrLeave SameSession ends old.lanes.items new.lanes.items
+  pub hosts_of : (at : ℕ) (old new : Desk K D) → DeskGoesOn at old new → StayOrLeave SameSession ends old.lanes.items new.lanes.items
       → ((n : ℕ) → old.core.state.next ≤ n → n < new.core.state.next → is_open new.core.state n ≡ true) → HostsOn ends at old new
   hosts_of at old new goes leaves opened start s =
       let a = old.core in let b = new.core in let ls = old.lanes.items in
@@ -208,7 +208,7 @@ module _ {K D S W : Type 0} (ends : S → W → LinkState) where
       )
 
   -- a step that opens no session
-  pub hosts_steady : (at : ℕ) (old new : Desk K D) → GoesOn at old new → StayOrLeave SameSession ends old.lanes.items new.lanes.items → new.core.state.next ≡ old.core.state.next → HostsOn ends at old new
+  pub hosts_steady : (at : ℕ) (old new : Desk K D) → DeskGoesOn at old new → StayOrLeave SameSession ends old.lanes.items new.lanes.items → new.core.state.next ≡ old.core.state.next → HostsOn ends at old new
   hosts_steady at old new goes leaves next = hosts_of at old new goes leaves (λ n high below. absurd (omega (arith, high, below, next)))
 
   pub hosts_none : (at : ℕ) (a : Desk K D) → HostsOn ends at a a

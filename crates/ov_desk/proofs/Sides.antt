@@ -12,20 +12,20 @@ use Rattle.ov_order.specs.declared.items.Sent.{Sent}
 use Rattle.ov_order.specs.declared.items.Sent.TheVariants.{End}
 use Rattle.ov_workers.specs.declared.cause.ReadCause.{ReadCause}
 use Rattle.ov_workers.specs.declared.cause.ReadCause.TheVariants as reads
-use Rattle.ov_workers.specs.Stream.{AreAskedFor}
+use Rattle.ov_workers.specs.Stream.{AreReadUntil}
 use Rattle.ov_workers.specs.Reading.{SuitsSource, Brings as ReaderBrings}
 use Rattle.ov_workers.specs.Writing.{Writes}
 use Rattle.ov_ends.specs.Ends.{KeepsInput, GivesWritten}
 use Rattle.ov_ends.specs.Writing.{WritesOf}
 use Rattle.ov_history.specs.declared.event.Cause.{Cause}
 use Rattle.ov_history.specs.declared.event.Cause.TheVariants.{InputEnded, ReadFault, WriteFault, Damaged, Overrun, Memory}
-use Rattle.ov_history.specs.Entries.{cause_view}
+use Rattle.ov_history.specs.Entries.{cause_view, is_written}
 use Rattle.ov_lanes.specs.Courses.{Course}
 use Rattle.ov_lanes.specs.Fitting.{Items, brought, end_cause, is_of_reader, is_by_reader, Took, framed, FitsCourse}
 use Rattle.ov_lanes.proofs.Fitting.{knows_marked}
 use Rattle.ov_desk.specs.LinkStates.{link_state}
 use Rattle.ov_desk.specs.Outcome.{SuitsReader, SuitsWriter, Finish, Outcome, account_of}
-use Rattle.ov_desk.specs.Ending.{is_written, CourseEnds}
+use Rattle.ov_desk.specs.Ending.{CourseEnds}
 
 -- ---- the reader
 
@@ -52,20 +52,20 @@ same_prefix : {A : Type 0} (xs ys : List A) → xs ≡ ys → IsPrefix xs ys
 same_prefix xs ys e = ([], append-nil xs ∙ e)
 
 -- what was brought is a beginning of what is asked for
-asked_begins : (cause : ReadCause) (messages : List Message) (a : Asked) → AreAskedFor cause messages a → IsPrefix messages a.messages
+asked_begins : (cause : ReadCause) (messages : List Message) (a : Asked) → AreReadUntil cause messages a → IsPrefix messages a.messages
 asked_begins reads.InputEnded messages a is = same_prefix messages a.messages (ap (λ (b : Asked). b.messages) (sym is))
 asked_begins reads.ReadFault messages a is = same_prefix messages a.messages (ap (λ (b : Asked). b.messages) (sym is))
 asked_begins reads.Damaged messages a is = same_prefix messages a.messages (ap (λ (b : Asked). b.messages) (sym is))
 asked_begins reads.Memory messages a is = is
 
 -- and all of it, unless an allocation failed
-asked_whole : (cause : ReadCause) (messages : List Message) (a : Asked) → is_of_reader (end_cause cause) ≡ true → AreAskedFor cause messages a → messages ≡ a.messages
+asked_whole : (cause : ReadCause) (messages : List Message) (a : Asked) → is_of_reader (end_cause cause) ≡ true → AreReadUntil cause messages a → messages ≡ a.messages
 asked_whole reads.InputEnded messages a of is = ap (λ (b : Asked). b.messages) (sym is)
 asked_whole reads.ReadFault messages a of is = ap (λ (b : Asked). b.messages) (sym is)
 asked_whole reads.Damaged messages a of is = ap (λ (b : Asked). b.messages) (sym is)
 asked_whole reads.Memory messages a of is = absurd (false≢true of)
 
-reader_suits : (cause : ReadCause) (messages : List Message) (a : Asked) (source source' : SourceState) → AreAskedFor cause messages a → SuitsSource cause source source' → SuitsReader (end_cause cause) a.damaged source source'
+reader_suits : (cause : ReadCause) (messages : List Message) (a : Asked) (source source' : SourceState) → AreReadUntil cause messages a → SuitsSource cause source source' → SuitsReader (end_cause cause) a.damaged source source'
 reader_suits reads.InputEnded messages a source source' is suits = (ap (λ (b : Asked). b.damaged) is, suits.0, suits.1)
 reader_suits reads.ReadFault messages a source source' is suits = (ap (λ (b : Asked). b.damaged) is, suits)
 reader_suits reads.Damaged messages a source source' is suits = ap (λ (b : Asked). b.damaged) is

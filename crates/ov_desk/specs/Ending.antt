@@ -6,8 +6,7 @@ use Rattle.ov_specs.specs.machine.History.{run, requests, frames_to, closed_by}
 use Rattle.ov_specs.specs.schema.SchemaTypes.{Schema}
 use Rattle.ov_specs.specs.rows.Database.{Database}
 use Rattle.ov_history.specs.declared.event.Cause.{Cause}
-use Rattle.ov_history.specs.declared.event.Cause.TheVariants.{InputEnded, ReadFault, WriteFault, Damaged, Overrun, Memory}
-use Rattle.ov_history.specs.Entries.{cause_view}
+use Rattle.ov_history.specs.Entries.{cause_view, is_written}
 use Rattle.ov_core.specs.Following.{CoreState, Follows}
 use Rattle.ov_lanes.specs.Courses.{Course}
 use Rattle.ov_lanes.specs.Since.{Since}
@@ -26,15 +25,6 @@ abbrev pub EndsAfter : {K D : Type 0} {first core : CoreState K D} → Since fir
 EndsAfter {first = first} since n finish old new =
     (schema : Schema) (database : Database) (history : List machine.Entry) (given : ℕ → List (List ℕ)) → Follows (opening schema database) history given first
     → EndsAs (opening schema database) (history ++ since.entries) n finish old new
-
--- no write failed
-abbrev pub is_written : Cause → Bool
-is_written InputEnded = true
-is_written ReadFault = true
-is_written WriteFault = false
-is_written Damaged = true
-is_written Overrun = true
-is_written Memory = true
 
 -- how a session ended that was closed for `why`, by the cause that is reported
 abbrev pub finish_for : machine.Cause → Cause → Finish

@@ -4,7 +4,7 @@ use Rattle.ov_specs.specs.machine.Machine.{is_open}
 use Rattle.ov_core.specs.Following.{CoreState, Timed}
 use Rattle.ov_lanes.specs.Moments.{Tells}
 use Rattle.ov_lanes.specs.Since.{Since}
-use Rattle.ov_lanes.specs.Lanes.{IsAt, StayAs, Serves, ServesOn, GoesOn}
+use Rattle.ov_lanes.specs.Lanes.{IsAt, StayAs, Serves, ServesOn, DeskGoesOn}
 use Rattle.ov_lanes.specs.declared.desk.Desk.{Desk}
 use Rattle.ov_lanes.specs.declared.lane.Lane.{Lane}
 use Rattle.ov_lanes.specs.declared.link.Link.{Link}
@@ -54,7 +54,7 @@ HaveLeft ends ls = (at : ℕ) (l : Lane) → IsAt ls at l → HasLeft ends l
 pub record TendsHall {K D S W L : Type 0} (ends : S → W → LinkState) (old new : Hall K D S W L) : Type 0 where
   pub core : new.desk.core ≡ old.desk.core
   pub many : vec_len new.desk.lanes ≡ vec_len old.desk.lanes
-  pub goes : (moment : ℕ) → GoesOn moment old.desk new.desk
+  pub goes : (moment : ℕ) → DeskGoesOn moment old.desk new.desk
   pub leaves : StayOrLeave IsTended ends old.desk.lanes.items new.desk.lanes.items
   pub same : (new.keeps ≡ old.keeps) × (new.accepted ≡ old.accepted)
   pub seats : AreSeats new

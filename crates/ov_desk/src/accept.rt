@@ -1,5 +1,4 @@
-ghost use Rattle.std.specs.Prelude.{◌≡◌, [], ◌∷◌};
-ghost use Rattle.rtrb.specs.Ring.{received};
+ghost use Rattle.std.specs.Prelude.{◌≡◌};
 
 use crate::listen::Listen;
 use ov_lanes::Link;

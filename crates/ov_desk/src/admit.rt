@@ -1,5 +1,5 @@
 ghost use Rattle.std.specs.Prelude.{◌≡◌, ◌<◌, ℕ, None, vec_len, slice_index_or};
-ghost use Rattle.ov_lanes.specs.Lanes.{GoesOn};
+ghost use Rattle.ov_lanes.specs.Lanes.{DeskGoesOn};
 ghost use Rattle.ov_desk.specs.Admitting.{Admits};
 ghost use Rattle.ov_desk.specs.Seats.{AreSeats, IsStarted};
 
@@ -62,7 +62,7 @@ where
     requires place { (at < vec_len hall.old.desk.lanes)
         × (slice_index_or hall.old.desk.lanes.items at None ≡ None) }
     requires started { IsStarted hall.old.keeps hall.old.desk.core.state.next started }
-    ensures goes { (moment : ℕ) → GoesOn moment hall.old.desk hall.new.desk }
+    ensures goes { (moment : ℕ) → DeskGoesOn moment hall.old.desk hall.new.desk }
     ensures answer { (bells parts : ℕ)
         → Admits bells parts hall.old.desk result hall.new.desk }
     ensures seats { AreSeats hall.new }
@@ -101,7 +101,7 @@ where
     S: Source + Send + Drop + 's,
     W: Sink + Send + Drop + 's,
     requires seats { AreSeats hall.old }
-    ensures goes { (moment : ℕ) → GoesOn moment hall.old.desk hall.new.desk }
+    ensures goes { (moment : ℕ) → DeskGoesOn moment hall.old.desk hall.new.desk }
     ensures answer { Admits (vec_len bells.now) hall.old.parts.left hall.old.desk result
         hall.new.desk }
     ensures seats { AreSeats hall.new }

@@ -1,5 +1,5 @@
 ghost use Rattle.std.specs.Prelude.{◌≡◌, ◌++◌, ◌∷◌, [], ℕ, List, option_to_list};
-ghost use Rattle.ov_lanes.specs.Lanes.{AreOver, GoesOn, IsSteady, SameLane, StayAs};
+ghost use Rattle.ov_lanes.specs.Lanes.{AreOver, DeskGoesOn, IsSteady, SameLane, StayAs};
 ghost use Rattle.ov_desk.specs.Guests.{HostsBy, HostsOn};
 ghost use Rattle.ov_desk.specs.LinkStates.{ends_of};
 ghost use Rattle.ov_desk.specs.Seats.{AreSeats};
@@ -42,7 +42,7 @@ fn turn_once_seen<R: Wait, K: Keeper + Drop, D: Draws + Drop>(
     moment: u64,
     serial: u64,
 ) -> bool
-    ensures goes { GoesOn moment desk.old desk.new }
+    ensures goes { DeskGoesOn moment desk.old desk.new }
     ensures rings { StayAs SameLane desk.old.lanes.items desk.new.lanes.items }
     ensures taken { TakesNoted serial desk.old.lanes.items result desk.new.lanes.items }
     ensures steady { IsSteady K.is_honest desk.old.core desk.new.core }

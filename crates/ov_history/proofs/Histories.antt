@@ -11,7 +11,7 @@ use Rattle.ov_specs.specs.machine.Suiting.{draws_uuids}
 use Rattle.ov_specs.proofs.laws.Histories.{run_more}
 use Rattle.ov_history.specs.declared.event.Entry.{Entry}
 use Rattle.ov_history.specs.Entries.{entry_view}
-use Rattle.ov_history.specs.History.{most_entries, newest, Keeps, kept_after, KeepsNewest, HasHistory}
+use Rattle.ov_history.specs.History.{most_entries, newest, Keeps, newest_after, KeepsNewest, HasHistory}
 
 -- with one more entry, the newest of the newest are the newest of all
 pub newest-newest : {A : Type 0} (xs : List A) (y : A) → newest (newest xs ++ y ∷ []) ≡ newest (xs ++ y ∷ [])
@@ -48,20 +48,20 @@ keeps_more old new history e (front, is) keeps =
     )
 
 -- entries in two parts
-pub kept_after-append : (kept xs ys : List machine.Entry) → kept_after kept (xs ++ ys) ≡ kept_after (kept_after kept xs) ys
-kept_after-append kept [] ys = refl
-kept_after-append kept (x ∷ xs) ys = kept_after-append (newest (kept ++ x ∷ [])) xs ys
+pub newest_after-append : (kept xs ys : List machine.Entry) → newest_after kept (xs ++ ys) ≡ newest_after (newest_after kept xs) ys
+newest_after-append kept [] ys = refl
+newest_after-append kept (x ∷ xs) ys = newest_after-append (newest (kept ++ x ∷ [])) xs ys
 
 -- entries that were appended in two parts
 pub keeps_on : (old mid new : List Entry) (xs ys : List machine.Entry) → KeepsNewest old xs mid → KeepsNewest mid ys new → KeepsNewest old (xs ++ ys) new
 keeps_on old mid new xs ys first then =
-    then ∙ (ap (λ (kept : List machine.Entry). kept_after kept ys) first ∙ sym (kept_after-append (map entry_view old) xs ys))
+    then ∙ (ap (λ (kept : List machine.Entry). newest_after kept ys) first ∙ sym (newest_after-append (map entry_view old) xs ys))
 
 -- the last entry is kept
 pub keeps_last : (old new : List Entry) (front : List machine.Entry) (last : machine.Entry) → KeepsNewest old (front ++ last ∷ []) new → (before : List machine.Entry) × (map entry_view new ≡ before ++ last ∷ [])
 keeps_last old new front last keeps =
-    let kept = kept_after (map entry_view old) front in
-    (drop (length (kept ++ last ∷ []) - most_entries) kept, keeps ∙ (kept_after-append (map entry_view old) front (last ∷ []) ∙ newest-last kept last))
+    let kept = newest_after (map entry_view old) front in
+    (drop (length (kept ++ last ∷ []) - most_entries) kept, keeps ∙ (newest_after-append (map entry_view old) front (last ∷ []) ∙ newest-last kept last))
 
 -- with one more entry, there is still a legal history
 pub has_more : (s t : State) (old new : List Entry) (e : machine.Entry) (sent : List Sent) → machine.step s e ≡ Some (record { state = t; sent = sent }) → draws_uuids e ≡ true → KeepsNewest old (e ∷ []) new → HasHistory s old → HasHistory t new

@@ -1,5 +1,5 @@
 -- Events and entries of the code as those of the machine.
-use Rattle.std.specs.Prelude.{ℕ, List, [], ◌∷◌, map, Bool, true, false, Option, Some, None}
+use Rattle.std.specs.Prelude.{ℕ, List, [], ◌∷◌, map, Bool, true, false, Option, Some, None, option_map}
 use Rattle.std.specs.List.{list_any}
 use Rattle.ov_specs.specs.wire.Message.{Message}
 use Rattle.ov_specs.specs.machine.Machine as machine
@@ -21,6 +21,15 @@ cause_view WriteFault = machine.WriteFault
 cause_view Damaged = machine.Damaged
 cause_view Overrun = machine.Overrun
 cause_view Memory = machine.Memory
+
+-- no write failed
+abbrev pub is_written : Cause → Bool
+is_written InputEnded = true
+is_written ReadFault = true
+is_written WriteFault = false
+is_written Damaged = true
+is_written Overrun = true
+is_written Memory = true
 
 -- an event: the machine knows sessions by their serials
 abbrev pub event_view : Event Message → machine.Event
@@ -63,11 +72,7 @@ is_closing (Some Failed) = false
 
 -- the store kept the changes
 abbrev pub is_kept : Option Outcome → Bool
-is_kept None = false
-is_kept (Some NoMemory) = false
-is_kept (Some Committed) = true
-is_kept (Some Exhausted) = false
-is_kept (Some Failed) = false
+is_kept outcome = machine.is_kept (option_map outcome_view outcome)
 
 -- ---- attempts of the machine
 

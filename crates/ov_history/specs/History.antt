@@ -24,13 +24,13 @@ abbrev pub Keeps : List Entry → List machine.Entry → Type 0
 Keeps kept history = (front : List machine.Entry) × (front ++ map entry_view kept ≡ history)
 
 -- Entries are appended one after another to those that are kept, and the newest stay.
-abbrev pub kept_after : List machine.Entry → List machine.Entry → List machine.Entry
-kept_after kept [] = kept
-kept_after kept (e ∷ entries) = kept_after (newest (kept ++ e ∷ [])) entries
+abbrev pub newest_after : List machine.Entry → List machine.Entry → List machine.Entry
+newest_after kept [] = kept
+newest_after kept (e ∷ entries) = newest_after (newest (kept ++ e ∷ [])) entries
 
 -- these entries were appended to those that were kept
 abbrev pub KeepsNewest : List Entry → List machine.Entry → List Entry → Type 0
-KeepsNewest old entries new = map entry_view new ≡ kept_after (map entry_view old) entries
+KeepsNewest old entries new = map entry_view new ≡ newest_after (map entry_view old) entries
 
 -- Some legal history leads from the opening of a database, made of rows of its schema, to the state. Its entries drew
 -- identifiers (RFC 4122, 4.1.2), and the entries that are kept are its newest.

@@ -130,8 +130,8 @@ abbrev pub PlacesGoOn : {K D : Type 0} → ℕ → CoreState K D → List (Optio
 PlacesGoOn {K} {D} at core places core' places' = (start : CoreState K D) (serves : Serves start core places) → ServesOn at serves core' places'
 
 -- so it is of a desk
-abbrev pub GoesOn : {K D : Type 0} → ℕ → Desk K D → Desk K D → Type 0
-GoesOn at old new = PlacesGoOn at old.core old.lanes.items new.core new.lanes.items
+abbrev pub DeskGoesOn : {K D : Type 0} → ℕ → Desk K D → Desk K D → Type 0
+DeskGoesOn at old new = PlacesGoOn at old.core old.lanes.items new.core new.lanes.items
 
 -- No session was opened, and a keeper that is honest now was honest before.
 pub record IsSteady {K D : Type 0} (is_honest : K → Type 0) (old new : CoreState K D) : Type 0 where
@@ -193,7 +193,7 @@ PutsAlone a b = SameProducer a.outbound b.outbound × (b.inbound ≡ a.inbound) 
 
 -- Something that waits may have been moved. The desk goes on from whatever its core was, and nothing is taken from a ring.
 pub record FlushesDesk {K D : Type 0} (is_honest : K → Type 0) (old new : Desk K D) : Type 0 where
-  pub goes : (moment : ℕ) → GoesOn moment old new
+  pub goes : (moment : ℕ) → DeskGoesOn moment old new
   pub rings : StayAs PutsAlone old.lanes.items new.lanes.items
   pub steady : IsSteady is_honest old.core new.core
 

@@ -1,5 +1,5 @@
 ghost use Rattle.std.specs.Prelude.{◌≡◌, ◌+◌, ◌<◌, ◌≤◌, [], true, false, vec_len, MatchBool};
-ghost use Rattle.ov_lanes.specs.Lanes.{AreFlushed, AreFlushedBelow, FlushesDesk, GoesOn, IsSteady};
+ghost use Rattle.ov_lanes.specs.Lanes.{AreFlushed, AreFlushedBelow, FlushesDesk, DeskGoesOn, IsSteady};
 ghost use Rattle.ov_lanes.specs.Lanes.{LookAll, SameLane, StayAs, TakesAt, Turns, unmarked};
 
 use crate::lane::Lane;
@@ -49,7 +49,7 @@ impl<K: Keeper + Drop, D: Draws + Drop> Desk<K, D> {
     /// Takes an item of the session at a place, as `take` does. Returns false if there is none.
     fn take_at(&mut self, alloc: Global, moment: u64, at: usize) -> bool
         requires { at < vec_len self.old.lanes }
-        ensures goes { GoesOn moment self.old self.new }
+        ensures goes { DeskGoesOn moment self.old self.new }
         ensures rings { StayAs SameLane self.old.lanes.items self.new.lanes.items }
         ensures taken { MatchBool result (TakesAt at self.old.lanes.items self.new.lanes.items)
             ((self.new.core ≡ self.old.core) × LookAll self.old.lanes.items self.new.lanes.items) }
@@ -65,7 +65,7 @@ impl<K: Keeper + Drop, D: Draws + Drop> Desk<K, D> {
     /// last one if that is later; an end closes the session. Then moves what waits for all sessions, as `flush` does. Returns
     /// false if no item was seen, or if the session has no place; then nothing is changed. Takes no lock, and waits for nobody.
     pub fn turn(&mut self, alloc: Global, moment: u64, serial: u64) -> bool
-        ensures goes { GoesOn moment self.old self.new }
+        ensures goes { DeskGoesOn moment self.old self.new }
         ensures rings { StayAs SameLane self.old.lanes.items self.new.lanes.items }
         ensures turns { Turns serial self.old result self.new }
         ensures steady { IsSteady K.is_honest self.old.core self.new.core }

@@ -1,4 +1,3 @@
-ghost use Rattle.std.specs.Prelude.{◌≡◌};
 ghost use Rattle.ov_core.specs.Following.{with_clock};
 ghost use Rattle.ov_listen.specs.Connections.{EndsAddress};
 

@@ -1,4 +1,4 @@
-ghost use Rattle.std.specs.Prelude.{◌≡◌, IfOk, IfErr, length, vec_len};
+ghost use Rattle.std.specs.Prelude.{◌≡◌, IfOk, IfErr, vec_len};
 ghost use Rattle.ov_core.specs.Following.{with_clock};
 ghost use Rattle.ov_listen.specs.Connections.{EndsSoMany, RefusesConnections, ServesConnections};
 

@@ -1,6 +1,4 @@
 //! Sessions of the database in a file.
-
-ghost use Rattle.std.specs.Prelude.{◌≡◌};
 ghost use Rattle.sqlite_wal.specs.Files.{image_at};
 ghost use Rattle.ov_pipes.specs.Pipes.{state_of};
 ghost use Rattle.ov_listen.specs.Files.{EndsFile, EndsStore};

@@ -1,4 +1,3 @@
-ghost use Rattle.std.specs.Prelude.{◌≡◌};
 ghost use Rattle.ov_specs.specs.operations.Abort as spec;
 ghost use Rattle.ov_specs.specs.rows.Database.{Database};
 ghost use Rattle.ov_ops.specs.Outcomes.{IsOutcome};

@@ -1,4 +1,4 @@
-ghost use Rattle.std.specs.Prelude.{◌≡◌, ℕ, List};
+ghost use Rattle.std.specs.Prelude.{ℕ, List};
 ghost use Rattle.serde_json.specs.View.{view};
 ghost use Rattle.ov_specs.specs.operations.Conditions.{Condition as condition};
 ghost use Rattle.ov_specs.specs.operations.MatchingRows.{on_conditions};

@@ -2,14 +2,14 @@ ghost use Rattle.std.specs.Prelude.{◌≡◌, ◌⊎◌, ◌≤◌, ◌++◌, �
 ghost use Rattle.std.specs.Prelude.{is_ok, IfOk, IfErr};
 ghost use Rattle.std.specs.Io.KnownBytes.{IsAtEnd};
 ghost use Rattle.ov_specs.specs.machine.Machine.{is_open, Entry as SpecEntry, Open as SpecOpen};
-ghost use Rattle.ov_history.specs.Entries.{cause_view, event_view, entry_view};
+ghost use Rattle.ov_history.specs.Entries.{cause_view, event_view, entry_view, is_written};
 ghost use Rattle.ov_history.specs.declared.event.Stepped.TheVariants.{Opened};
 ghost use Rattle.ov_core.specs.Following.{CoreState, with_clock};
 ghost use Rattle.ov_core.specs.Stepping.{IsEntered, RefusesStep};
 ghost use Rattle.ov_cut.specs.Reading.{IsFed};
 ghost use Rattle.ov_streams.specs.Feeding.{fed_piece};
 ghost use Rattle.ov_ends.specs.Ends.{KeepsInput, GivesWritten};
-ghost use Rattle.ov_serve.specs.Serving.{ServesSession, Served, server_of, is_written};
+ghost use Rattle.ov_serve.specs.Serving.{ServesSession, Served, server_of};
 ghost use Rattle.ov_serve.specs.Serving.{CauseMatchesCounts, most_piece_bytes};
 ghost use Rattle.ov_serve.specs.Progress.{stream_cause, ServesPiece};
 

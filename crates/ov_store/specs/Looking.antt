@@ -66,8 +66,8 @@ pub record WasRead (db : List ℕ) (copy : Image) : Type 0 where
 
 -- a call of the look failed with this error: for memory, for the file, for its first page, for its log, for their bytes. That
 -- a log is absent or a page short is no failure.
-abbrev pub HasFailed : List ℕ → Error → Type 0
-HasFailed db e =
+abbrev pub FailsToLook : List ℕ → Error → Type 0
+FailsToLook db e =
     HasNoRoom e ⊎ (HasNoSize db e ⊎ (HasNoPage db e
     ⊎ ((HasNoSize (log_of db) e × (error_kind e ≢ kind.NotFound)) ⊎ (IsUnread db e ⊎ IsUnread (log_of db) e))))
 
@@ -77,7 +77,7 @@ MayBeOpenedAt db = IsPlain db ⊎ ((copy : Image) × WasRead db copy × IsNobody
 
 -- why a file is refused unopened
 abbrev pub IsRefusedAt : List ℕ → KeepFault → Type 0
-IsRefusedAt db fault = ((e : Error) × HasFailed db e × IsSystemFault e fault) ⊎ ((copy : Image) × WasRead db copy × IsCopyRefused copy fault)
+IsRefusedAt db fault = ((e : Error) × FailsToLook db e × IsSystemFault e fault) ⊎ ((copy : Image) × WasRead db copy × IsCopyRefused copy fault)
 
 -- the same of a path that may have links in it: where there is no file, one may be made
 abbrev pub MayBeOpened : List ℕ → Type 0

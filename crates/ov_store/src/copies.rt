@@ -4,7 +4,7 @@ ghost use Rattle.std.specs.Prelude.{◌≡◌, ◌≢◌, ◌↔◌, IfErr, IfNo
 ghost use Rattle.std.specs.Prelude.{string_bytes};
 ghost use Rattle.std.specs.IoError.{error_kind};
 ghost use Rattle.ov_store.specs.Answers.{Page, WasAnswered};
-ghost use Rattle.ov_store.specs.Looking.{log_of, HasBytes, HasFailed, HasLogSize, HasNoPage};
+ghost use Rattle.ov_store.specs.Looking.{log_of, HasBytes, FailsToLook, HasLogSize, HasNoPage};
 ghost use Rattle.ov_store.specs.Looking.{HasNoRoom, HasNoSize, HasSize, IsPlain, IsUnread};
 ghost use Rattle.ov_store.specs.Looking.{ListsTables, WasRead};
 
@@ -30,7 +30,7 @@ pub(crate) fn read_to_test(rt: &HostRuntime, db: &str) -> io::Result<Option<Copi
     ensures some { IfOk result
         (λ copies. IfSome copies
         (λ it. WasRead db.now (record { log = it.log.items; db = it.db.items }))) }
-    ensures failed { IfErr result (HasFailed db.now) }
+    ensures failed { IfErr result (FailsToLook db.now) }
 {
     match log_name(rt.alloc(), db) {
         Ok(log) => read_both(rt, db, log.as_str()),
@@ -55,7 +55,7 @@ fn read_both(rt: &HostRuntime, db: &str, log: &str) -> io::Result<Option<Copies>
     ensures some { IfOk result
         (λ copies. IfSome copies
         (λ it. WasRead db.now (record { log = it.log.items; db = it.db.items }))) }
-    ensures failed { IfErr result (HasFailed db.now) }
+    ensures failed { IfErr result (FailsToLook db.now) }
 {
     let db_size = size_of(rt, db)?;
     let log_size = log_size_of(rt, log)?;
@@ -71,7 +71,7 @@ fn read_copies(rt: &HostRuntime, db: &str, log: &str, log_size: u64) -> io::Resu
     requires size { HasLogSize log.now log_size }
     ensures some { IfOk result (λ copies. (it : _) × (copies ≡ Some it)
         × WasRead db.now (record { log = it.log.items; db = it.db.items })) }
-    ensures failed { IfErr result (HasFailed db.now) }
+    ensures failed { IfErr result (FailsToLook db.now) }
 {
     let log = if log_size == 0 {
         Vec::new(rt.alloc())

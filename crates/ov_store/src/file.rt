@@ -5,7 +5,6 @@ ghost use Rattle.sqlite_store.specs.FileStore.{view};
 ghost use Rattle.sqlite.specs.Held.{IsNew};
 ghost use Rattle.sqlite.specs.Start.{FindsIn};
 ghost use Rattle.sqlite.specs.State.{HasCleanDisk};
-ghost use Rattle.ov_keeper.specs.Keeping.{IsCommitFault};
 ghost use Rattle.ov_store.specs.StoreState.{MayFind, IsOfItsFormat};
 ghost use Rattle.ov_store.specs.Finding.{new_contents, HasNoTable, IsStoredIn, IsFileRefused};
 ghost use Rattle.ov_store.specs.Finding.{IsPathRefused, IsMemoryRefused};

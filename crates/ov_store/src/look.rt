@@ -1,6 +1,6 @@
 //! Finds out what a file is without changing it.
 
-ghost use Rattle.std.specs.Prelude.{◌≡◌, ◌≢◌, ◌⊎◌, IfErr, IfOk, OnOk};
+ghost use Rattle.std.specs.Prelude.{◌≡◌, ◌≢◌, ◌⊎◌, IfErr, OnOk};
 ghost use Rattle.ov_store.specs.Causes.{IsCopyRefused, IsNobodyElses};
 ghost use Rattle.ov_store.specs.Looking.{IsLookRefused, IsRefusedAt, MayBeOpened, MayBeOpenedAt};
 ghost use Rattle.ov_store.specs.Refusing.{IsSystemFault};

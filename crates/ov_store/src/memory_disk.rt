@@ -1,4 +1,4 @@
-ghost use Rattle.std.specs.Prelude.{◌≡◌, [], length, true, false, refl, is_ok, IsTrue, OnOk, OnErr};
+ghost use Rattle.std.specs.Prelude.{◌≡◌, [], length, true, false, refl, is_ok, OnOk};
 ghost use Rattle.sqlite_disk.specs.Disk.{Holds, Torn, Cut, CountsFault};
 ghost use Rattle.sqlite_disk.specs.Refusal.{finds_no_room};
 

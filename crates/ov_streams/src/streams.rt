@@ -1,4 +1,4 @@
-ghost use Rattle.std.specs.Prelude.{◌≡◌, ◌≢◌, ◌≤◌, ◌++◌, ℕ, List, [], ◌∷◌, MatchResult, IfOk, OnOk};
+ghost use Rattle.std.specs.Prelude.{◌≡◌, ◌≢◌, ◌≤◌, ℕ, List, [], ◌∷◌, MatchResult, IfOk, OnOk};
 ghost use Rattle.std.specs.Prelude.{OnErr, IfSome, IfNone, IsSomeAnd, length, take, slice_get};
 ghost use Rattle.std.specs.Prelude.{Some};
 ghost use Rattle.ov_specs.specs.machine.Machine.{Entry, opening, Open as SpecOpen};

@@ -1,5 +1,4 @@
 ghost use Rattle.std.specs.Prelude.{◌≡◌, Bool, IfOk};
-ghost use Rattle.serde_json.specs.Data.{Items};
 ghost use Rattle.ov_db.specs.Changing.{Delta as Changes};
 ghost use Rattle.ov_db.specs.KeptDatabase.{KeptDatabase};
 ghost use Rattle.ov_txn.specs.Replying.{replies_with};

@@ -1,4 +1,4 @@
-ghost use Rattle.std.specs.Prelude.{◌≡◌, ◌++◌, ◌↔◌, List, [], IfOk, IsTrue, option_map};
+ghost use Rattle.std.specs.Prelude.{◌≡◌, ◌↔◌, [], IfOk, IsTrue, option_map};
 ghost use Rattle.std.specs.List.{find};
 ghost use Rattle.serde_json.specs.View.{view};
 ghost use Rattle.ov_db.specs.Changing.{applied};

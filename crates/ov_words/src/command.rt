@@ -1,5 +1,5 @@
-ghost use Rattle.std.specs.Prelude.{◌≡◌, ◌≢◌, [], Err, false, IfOk, codes, map};
-ghost use Rattle.clap.specs.Words.{app_of, fault_of, first_value, found_of, matches_of, rows_of};
+ghost use Rattle.std.specs.Prelude.{◌≡◌, ◌≢◌, [], Err, false, IfOk, map};
+ghost use Rattle.clap.specs.Words.{app_of, fault_of, found_of, matches_of, rows_of};
 ghost use Rattle.clap.specs.Words.{rule_of};
 ghost use Rattle.ov_words.specs.Words.{app, option_rule, with_database, with_ends};
 

@@ -1,4 +1,4 @@
-ghost use Rattle.std.specs.Prelude.{◌≡◌, ◌≢◌, [], Err, None, Some, true, false, IfOk, codes, map};
+ghost use Rattle.std.specs.Prelude.{◌≡◌, ◌≢◌, [], Err, None, Some, true, false, IfOk, map};
 ghost use Rattle.std.specs.Prelude.{option_and_then};
 ghost use Rattle.clap.specs.Words.{first_value, found_of};
 ghost use Rattle.ov_words.specs.Words.{fit_together, is_number, is_set, sessions_in, settings_of};

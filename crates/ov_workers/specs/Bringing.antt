@@ -11,7 +11,7 @@ use Rattle.ov_ends.specs.Ends.{KeepsInput}
 use Rattle.ov_order.specs.declared.items.Brought.TheVariants.{Message}
 use Rattle.ov_workers.specs.declared.cause.ReadCause.{ReadCause}
 use Rattle.ov_workers.specs.declared.cause.ReadCause.TheVariants.{Damaged, Memory}
-use Rattle.ov_workers.specs.Stream.{AreAskedFor}
+use Rattle.ov_workers.specs.Stream.{AreReadUntil}
 use Rattle.ov_workers.specs.Reading.{Item, SuitsSource}
 
 -- the messages were brought
@@ -27,7 +27,7 @@ pub record IsBrought (stream : List ℕ) (cutter : CutterState) (items : List It
 pub record IsBroughtToEnd (cause : ReadCause) (stream : List ℕ) (items : List Item) : Type 0 where
   pub messages : List wire.Message
   pub brought : items ≡ map Message messages
-  pub asks : AreAskedFor cause messages (asked stream)
+  pub asks : AreReadUntil cause messages (asked stream)
 
 -- why a stream that can't be read on ends
 abbrev pub cause_of_fault : StreamFault → ReadCause

@@ -9,7 +9,7 @@ use Rattle.ov_order.specs.declared.items.Brought.{Brought}
 use Rattle.ov_order.specs.declared.items.Brought.TheVariants.{Message, End}
 use Rattle.ov_workers.specs.declared.cause.ReadCause.{ReadCause}
 use Rattle.ov_workers.specs.declared.cause.ReadCause.TheVariants.{InputEnded, ReadFault, Damaged, Memory}
-use Rattle.ov_workers.specs.Stream.{AreAskedFor}
+use Rattle.ov_workers.specs.Stream.{AreReadUntil}
 
 -- an item in the ring of a reader
 abbrev pub Item : Type 0
@@ -29,6 +29,6 @@ pub record Brings (cause : ReadCause) (old new : SourceState) (items : List Item
   pub read : new.read ≡ old.read ++ stream
   pub messages : List wire.Message
   pub brought : items ≡ map Message messages ++ End cause ∷ []
-  pub asks : AreAskedFor cause messages (asked stream)
+  pub asks : AreReadUntil cause messages (asked stream)
   pub suits : SuitsSource cause old new
   pub input : KeepsInput old.read old.remaining new.read new.remaining

@@ -10,8 +10,8 @@ BeginsAs some all = (others : List Message) × (some ++ others ≡ all)
 
 -- The messages are what the stream asked for, if it ended for this cause: all of it, and the stream is damaged after them if
 -- that is the cause, and otherwise is not. If an allocation failed, some may be missing at the end.
-abbrev pub AreAskedFor : ReadCause → List Message → Asked → Type 0
-AreAskedFor InputEnded messages a = a ≡ record { messages = messages; damaged = false }
-AreAskedFor ReadFault messages a = a ≡ record { messages = messages; damaged = false }
-AreAskedFor Damaged messages a = a ≡ record { messages = messages; damaged = true }
-AreAskedFor Memory messages a = BeginsAs messages a.messages
+abbrev pub AreReadUntil : ReadCause → List Message → Asked → Type 0
+AreReadUntil InputEnded messages a = a ≡ record { messages = messages; damaged = false }
+AreReadUntil ReadFault messages a = a ≡ record { messages = messages; damaged = false }
+AreReadUntil Damaged messages a = a ≡ record { messages = messages; damaged = true }
+AreReadUntil Memory messages a = BeginsAs messages a.messages

@@ -1,5 +1,3 @@
-ghost use Rattle.ov_specs.specs.rows.Cells.{Stored};
-
 use ov_base::Text;
 use ov_keeper::{Change, KeepFault, Keeper, Loaded};
 use std::alloc::Global;

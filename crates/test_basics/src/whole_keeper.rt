@@ -1,5 +1,3 @@
-ghost use Rattle.ov_specs.specs.rows.Cells.{Stored};
-
 use ov_base::{Bytes, Text};
 use ov_keeper::{Change, KeepFault, Keeper, Line, Lines, ListKeeper, Loaded};
 use std::alloc::{AllocError, Global};
