@@ -1,5 +1,5 @@
 -- What the tables hold, by what was read of them.
-use Rattle.std.proofs.Common.{◌≡◌, ◌⊎◌, ◌==◌, ◌↔◌, inl, inr, ℕ, List, Bool, true, false, not, IsTrue, MatchBool, refl, sym, ap, subst, ◌∙◌, codes}
+use Rattle.std.proofs.Common.{◌≡◌, ◌⊎◌, ◌==◌, ◌↔◌, inl, inr, ℕ, List, Bool, true, false, not, IsTrue, MatchBool, refl, ap, subst, ◌∙◌, codes}
 use mathlib.Core.Bool.{beq}
 use Rattle.sqlite.specs.Schema.{Schema}
 use Rattle.sqlite.specs.Order.{Row}

@@ -282,13 +282,15 @@ module _ (db : Database) (has : HasCellTables db.schema) (sound : IsDatabase db)
       at q (Some r) None e = absurd cc
       at q (Some r) (Some s) e = let version : bytes (column r 3) ≡ bytes (column s 3) = cc in ap₂ (λ v m. Some (v, m)) version (cells_same q)
 
+module _ (db : Database) (has : HasCellTables db.schema) (sound : IsDatabase db) (heads_are : AllByRecursion IsHead (rows_of_head db.trees)) (heads : List Row) (same_heads : IsPermutation (map head_selected (rows_of_head db.trees)) heads) where
   heads_keyed : AllByRecursion IsKeyed heads
-  heads_keyed = all_weaker _ _ (λ r (is : IsHead r). is.keyed) heads (read_all head_selected H heads same_heads IsHead head_shown heads_are)
+  heads_keyed = all_weaker _ _ (λ r (is : IsHead r). is.keyed) heads (read_all head_selected (rows_of_head db.trees) heads same_heads IsHead head_shown heads_are)
 
   heads_apart_read : AreApart (1 ∷ 2 ∷ []) heads
   heads_apart_read =
-      every_shuffled _ (map head_selected H) heads same_heads
-      (map_all _ head_selected H (all_weaker _ _ (λ r inner. every_shuffled _ (map head_selected H) heads same_heads (map_all (Apart (1 ∷ 2 ∷ []) (head_selected r)) head_selected H (all_weaker _ _ (λ s a. a) H inner))) H heads_apart))
+      let stored = rows_of_head db.trees in
+      every_shuffled _ (map head_selected stored) heads same_heads
+      (map_all _ head_selected stored (all_weaker _ _ (λ r inner. every_shuffled _ (map head_selected stored) heads same_heads (map_all (Apart (1 ∷ 2 ∷ []) (head_selected r)) head_selected stored (all_weaker _ _ (λ s a. a) stored inner))) stored (apart_by_key db (codes "head") _ _ (1 ∷ 2 ∷ []) has.head sound)))
 
   -- no two heads that were read have one key
   pub heads_distinct : AreNumbered heads → AreDistinct heads
@@ -302,18 +304,19 @@ module _ (db : Database) (has : HasCellTables db.schema) (sound : IsDatabase db)
         go rows n.1 k.1 (all_weaker _ _ (λ s (inner : AllByRecursion (Apart (1 ∷ 2 ∷ []) s) (r ∷ rows)). inner.1) rows a.1),
       )
 
-  any_head : (q : LineKey) → list_any (has_key q) H ≡ list_any (has_key q) heads
-  any_head q = sym (any_map H) ∙ list_any-IsPermutation (has_key q) (map head_selected H) heads same_heads
+module _ (stored_heads heads stored cells : List Row) (same_heads : IsPermutation (map head_selected stored_heads) heads) (same_cells : IsPermutation (map row_selected stored) cells) where
+  any_head : (q : LineKey) → list_any (has_key q) stored_heads ≡ list_any (has_key q) heads
+  any_head q = sym (any_map stored_heads) ∙ list_any-IsPermutation (has_key q) (map head_selected stored_heads) heads same_heads
     where
       any_map : (rows : List Row) → list_any (has_key q) (map head_selected rows) ≡ list_any (has_key q) rows
       any_map [] = refl
       any_map (r ∷ rows) = ap (λ b. has_key q r || b) (any_map rows)
 
   -- each cell that is stored has its head if each that was read has it, and the other way round
-  pub owned_stored : have_heads (map head_of heads) (map cell_of cells) ≡ true → have_heads (map head_of H) (map cell_of C) ≡ true
+  pub owned_stored : have_heads (map head_of heads) (map cell_of cells) ≡ true → have_heads (map head_of stored_heads) (map cell_of stored) ≡ true
   owned_stored owned =
-      each_heads H C (stored_all row_selected C cells same_cells (HasHead H) (λ r h. h) (all_weaker _ _ (λ r h. any_head (row_key r) ∙ h) cells (heads_each heads cells owned)))
+      each_heads stored_heads stored (stored_all row_selected stored cells same_cells (HasHead stored_heads) (λ r h. h) (all_weaker _ _ (λ r h. any_head (row_key r) ∙ h) cells (heads_each heads cells owned)))
 
-  pub owned_read : have_heads (map head_of H) (map cell_of C) ≡ true → have_heads (map head_of heads) (map cell_of cells) ≡ true
+  pub owned_read : have_heads (map head_of stored_heads) (map cell_of stored) ≡ true → have_heads (map head_of heads) (map cell_of cells) ≡ true
   owned_read owned =
-      each_heads heads cells (all_weaker _ _ (λ r h. sym (any_head (row_key r)) ∙ h) cells (read_all row_selected C cells same_cells (HasHead H) (λ r h. h) (heads_each H C owned)))
+      each_heads heads cells (all_weaker _ _ (λ r h. sym (any_head (row_key r)) ∙ h) cells (read_all row_selected stored cells same_cells (HasHead stored_heads) (λ r h. h) (heads_each stored_heads stored owned)))

@@ -1,5 +1,5 @@
 -- The heads with the cells that were read so far.
-use Rattle.std.proofs.Common.{◌≡◌, ◌≢◌, ◌+◌, ◌<◌, ℕ, zero, suc, List, [], ◌∷◌, ◌++◌, map, filter, length, get_or, slice_get, IfSome, cond, Bool, true, false, ◌||◌, refl, sym, ap, ap₂, subst, ◌∙◌, arith, set, Vec, Global, Option, Some, None, MatchOption, HoldsAt}
+use Rattle.std.proofs.Common.{◌≡◌, ◌≢◌, ◌+◌, ◌<◌, ℕ, zero, suc, List, [], ◌∷◌, ◌++◌, map, filter, length, get_or, slice_get, IfSome, cond, Bool, true, false, ◌||◌, refl, sym, ap, ap₂, subst, ◌∙◌, arith, set, Vec, Global, Option, Some, None, MatchOption, HoldsAt, ℤ, ◌<ℤ◌}
 use Rattle.std.specs.List.{AllByRecursion, AllWithin, list_any}
 use Rattle.std.specs.FinMap.{from_entries}
 use Rattle.sqlite.specs.Order.{Row, column}
@@ -12,10 +12,13 @@ use Rattle.ov_specs.proofs.laws.LineKeys.{same_key-is, same_key-itself}
 use Rattle.ov_keeper.specs.declared.cell_line.CellLine.{CellLine}
 use Rattle.ov_keeper.specs.declared.cell_line.Cell.{Cell as KeptCell}
 use Rattle.ov_keeper.specs.Views.{cell_line_entry, cell_entry}
-use Rattle.ov_tables.specs.Format.{row_key, head_of, cell_of}
+use Rattle.ov_tables.specs.Format.{IsCell, row_key, head_of, cell_of}
 use Rattle.ov_tables.proofs.RowLemmas.{has_key}
-use Rattle.ov_sqlite.proofs.CellLemmas.{HasHead, heads_each, is_row_of}
-use Rattle.ov_sqlite.proofs.NumberLemmas.{all_front}
+use Rattle.ov_sqlite.proofs.CellLemmas.{HasHead, heads_each, each_heads, is_row_of}
+use Rattle.ov_sqlite.proofs.NumberLemmas.{all_push, all_first, all_last, push_numbered, push_below}
+use Rattle.sqlite.specs.declared.types.Value.TheVariants.{Int}
+use Rattle.ov_sqlite.specs.declared.join.Joining.{Joining}
+use Rattle.ov_sqlite.specs.Joined.{AreJoined, HasJoined, HasRefused}
 use Rattle.ov_sqlite.specs.Joining.{Entry, Parts, line_parts, entries_of, head_parts, with_cell, entry_in, AreDistinct}
 
 -- the cells of a key, with one row more
@@ -119,18 +122,22 @@ head_at_place (h ∷ heads) (suc n) d x low same =
     elim (has_key (row_key x) h) as (λ b. (b || list_any (has_key (row_key x)) heads) ≡ true) [ true ↦ refl | false ↦ head_at_place heads n d x (omega (arith, low)) same ]
 
 -- a cell without a head
-pub not_owned : (heads cells : List Row) (i : ℕ) (x : Row) → i < length cells → x ≡ get_or cells i x → list_any (λ h. same_key h.key (row_key x)) (map head_of heads) ≡ false → have_heads (map head_of heads) (map cell_of cells) ≡ false
-not_owned heads cells i x low is none = decide (have_heads (map head_of heads) (map cell_of cells)) refl
+pub not_owned : (heads cells : List Row) (x : Row) → list_any (λ h. same_key h.key (row_key x)) (map head_of heads) ≡ false → have_heads (map head_of heads) (map cell_of (cells ++ x ∷ [])) ≡ false
+not_owned heads cells x none = decide (have_heads (map head_of heads) (map cell_of (cells ++ x ∷ []))) refl
   where
-    decide : (b : Bool) → have_heads (map head_of heads) (map cell_of cells) ≡ b → have_heads (map head_of heads) (map cell_of cells) ≡ false
+    decide : (b : Bool) → have_heads (map head_of heads) (map cell_of (cells ++ x ∷ [])) ≡ b → have_heads (map head_of heads) (map cell_of (cells ++ x ∷ [])) ≡ false
     decide false e = e
     decide true e =
-        let there : HasHead heads x = all_front (HasHead heads) cells i x low is (heads_each heads cells e) in
+        let there : HasHead heads x = all_last (HasHead heads) cells x (heads_each heads (cells ++ x ∷ []) e) in
         absurd (let clash : true ≡ false = sym there ∙ sym (heads_any heads) ∙ none in cc)
       where
         heads_any : (heads : List Row) → list_any (λ h. same_key h.key (row_key x)) (map head_of heads) ≡ list_any (has_key (row_key x)) heads
         heads_any [] = refl
         heads_any (h ∷ heads) = ap₂ (λ a b. a || b) (is_row_of h (row_key x)) (heads_any heads)
+
+-- the first of the cells have their heads if all have
+pub owned_first : (heads cells rest : List Row) → have_heads (map head_of heads) (map cell_of (cells ++ rest)) ≡ true → have_heads (map head_of heads) (map cell_of cells) ≡ true
+owned_first heads cells rest owned = each_heads heads cells (all_first (HasHead heads) cells rest (heads_each heads (cells ++ rest) owned))
 
 map_push : {X Y : Type 0} (f : X → Y) (xs : List X) (x : X) → map f (xs ++ x ∷ []) ≡ map f xs ++ f x ∷ []
 map_push f [] x = refl
@@ -160,3 +167,31 @@ first_place p lines (Some i) it = (it.0, there lines i it.1)
     there [] i h = tt
     there (x ∷ lines) zero h = h x
     there (x ∷ lines) (suc i) h = there lines i h
+
+-- ---- one row at a time
+
+-- one cell more was put into its line
+pub joined_more : (heads cells : List Row) (x : Row) (lines new : List CellLine) (at : ℕ) → AreDistinct heads → AreJoined heads cells lines → at < length lines
+    → IfSome (slice_get lines at) (λ l. same_key (line_parts l).0 (row_key x) ≡ true) → map line_parts new ≡ with_cell at (entry_in x) (map line_parts lines) → AreJoined heads (cells ++ x ∷ []) new
+joined_more heads cells x lines new at distinct was low same put =
+    let place = line_at_place cells heads lines at x (row_key x) was.joined low same in
+    record {
+      joined = put ∙ ap (with_cell at (entry_in x)) was.joined ∙ joined_step cells x heads at x distinct place.0 place.1;
+      owned = each_heads heads (cells ++ x ∷ []) (all_push (HasHead heads) cells x (heads_each heads cells was.owned) (head_at_place heads at x x place.0 place.1));
+    }
+
+pub joining_more : (first old new : Joining) (cells : List Row) (x : Row) (n : ℤ) (at : ℕ) → HasJoined first old cells → column x 0 ≡ Int n → IfSome old.number (λ k. k <ℤ n) → new.number ≡ Some n → new.is_malformed ≡ old.is_malformed
+    → IsCell x → at < length old.lines.items → IfSome (slice_get old.lines.items at) (λ l. same_key (line_parts l).0 (row_key x) ≡ true) → map line_parts new.lines.items ≡ with_cell at (entry_in x) (map line_parts old.lines.items)
+    → HasJoined first new (cells ++ x ∷ [])
+joining_more first old new cells x n at was is above number flag cell low same put = record {
+  sound = flag ∙ was.sound;
+  are = all_push IsCell cells x was.are cell;
+  numbered = push_numbered cells x n is (was.below n above) was.numbered;
+  below = λ m lower. push_below cells x old.number n m is above (subst (λ o. IfSome o (λ k. k <ℤ m)) number lower) was.below;
+  joins = λ heads bare. joined_more heads cells x old.lines.items new.lines.items at bare.0 (was.joins heads bare) low same put;
+}
+
+-- a row was refused, since it is no cell or has no head
+pub joining_refused : (first old new : Joining) (cells : List Row) (x : Row) → HasJoined first old cells → (IsCell x → list_any (λ l. same_key (line_parts l).0 (row_key x)) old.lines.items ≡ false) → HasRefused first new (cells ++ x ∷ [])
+joining_refused first old new cells x was missing bad are heads bare =
+    not_owned heads cells x (sym (any_line cells heads old.lines.items (row_key x) (was.joins heads bare).joined) ∙ missing (all_last IsCell cells x are))

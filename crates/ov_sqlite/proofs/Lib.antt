@@ -13,3 +13,4 @@ pub mod NumberLemmas
 pub mod HeldLemmas
 pub mod FormatLemmas
 pub mod JoinLemmas
+pub mod ReadLemmas

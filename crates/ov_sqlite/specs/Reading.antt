@@ -1,5 +1,5 @@
 -- The rows of the tables, as they are read.
-use Rattle.std.specs.Prelude.{◌≡◌, ◌≢◌, ℕ, ℤ, List, map, Bool, true, false, IsTrue, MatchBool, IsUtf8, length}
+use Rattle.std.specs.Prelude.{◌≡◌, ◌≢◌, ℕ, ℤ, List, [], map, Bool, true, false, IsTrue, MatchBool, IsUtf8, length}
 use Rattle.std.specs.List.{AllByRecursion}
 use Rattle.std.specs.List.Sorted.{IsPermutation}
 use Rattle.sqlite.specs.declared.types.Value.{Value}
@@ -18,7 +18,8 @@ use Rattle.ov_keeper.specs.Views.{line_entry, cell_line_entry, lines_view}
 use Rattle.ov_tables.specs.Tables.{HasLineTables, HasCellTables, HasOurTables}
 use Rattle.ov_tables.specs.Format.{IsLine, IsHead, IsCell, entry, head_of, cell_of, stored_lines, stored_cells, held, rows_of_line, rows_of_head, rows_of_cell}
 use Rattle.ov_tables.specs.Holding.{IsNumbered, IsStoredAs}
-use Rattle.ov_sqlite.specs.Joining.{AreNumbered}
+use Rattle.ov_tables.specs.Querying.{head_selected}
+use Rattle.ov_sqlite.specs.Joining.{AreNumbered, line_parts, head_parts}
 
 -- the value is no number
 abbrev pub IsNoNumber : Value → Type 0
@@ -43,6 +44,12 @@ pub record ReadsRows {X : Type 0} (Is : Row → Type 0) (is : Row → X) (select
   pub are : AllByRecursion Is stored
   pub numbered : IsNumbered is stored
   pub distinct : AreNumbered read
+
+-- the rows of `head` were read, and these are the lines that they are, without cells
+abbrev pub ReadsHeads : List Row → List CellLine → Type 0
+ReadsHeads stored lines =
+    (heads : List Row) × ReadsRows IsHead head_of head_selected stored heads
+    × (map line_parts lines ≡ map (head_parts []) heads)
 
 -- while the connection is open, the tables of stored format 2 are there
 abbrev pub MayReadCells : State → Type 0

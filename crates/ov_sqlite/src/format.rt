@@ -14,12 +14,12 @@ ghost use Rattle.ov_sqlite.specs.Reading.{are_cells, IsHeldBy, MayHaveTables};
 
 use crate::columns::line_columns_of;
 use crate::fault::fault_of;
-use crate::join::join;
-use crate::read::{read_cells, read_heads, read_lines, read_meta};
+use crate::join::Joining;
+use crate::read::{read_bare_lines, read_lines, read_meta};
 use crate::write::probe;
 use ov_base::{Bytes, Text};
 use ov_keeper::{CellLine, KeepFault, Line, Lines, Loaded};
-use ov_tables::has_cell_tables;
+use ov_tables::{each_cell, has_cell_tables};
 use sqlite::{Alter, Connection, Row};
 use std::alloc::{AllocError, Global};
 
@@ -43,18 +43,17 @@ fn read_joined<S: Alter>(
 {
     // Its contract says that the rows obey the schema.
     let _schema = conn.schema();
-    let heads = match read_heads(conn) {
-        Ok(heads) => heads,
+    let lines = match read_bare_lines(alloc, conn) {
+        Ok(lines) => lines,
         Err(fault) => return Err(fault),
     };
-    let cells = match read_cells(conn) {
-        Ok(cells) => cells,
-        Err(fault) => return Err(fault),
-    };
-    match join(alloc, heads.as_slice(), cells.as_slice()) {
-        Ok(Some(lines)) => Ok(lines),
-        Ok(None) => Err(KeepFault::Format),
-        Err(_) => Err(KeepFault::Memory),
+    let mut joining = Joining::new(alloc, lines);
+    match each_cell(conn, &mut joining) {
+        Ok(true) => Ok(joining.lines),
+        Ok(false) if joining.is_malformed => Err(KeepFault::Format),
+        // The numbers of the rows do not rise.
+        Ok(false) => Err(KeepFault::Device),
+        Err(error) => Err(fault_of(&error)),
     }
 }
 

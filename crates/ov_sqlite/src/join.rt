@@ -3,21 +3,26 @@
 ghost use Rattle.std.specs.Prelude.{◌≡◌, ◌<◌, [], length, slice_get, map, true, false, IfOk};
 ghost use Rattle.std.specs.Prelude.{IfSome, IfNone, MatchOption, OnOk};
 ghost use Rattle.std.specs.List.{AllByRecursion, list_any};
-ghost use Rattle.ov_specs.specs.rows.Cells.{have_heads};
 ghost use Rattle.ov_specs.specs.rows.Database.{same_key};
 ghost use Rattle.ov_keeper.specs.Views.{cell_entry};
-ghost use Rattle.ov_tables.specs.Format.{IsHead, IsCell, row_key, head_of, cell_of};
-ghost use Rattle.ov_sqlite.specs.Joining.{AreDistinct, line_parts, head_parts, with_cell, entry_in};
+ghost use Rattle.ov_tables.specs.Format.{IsHead, IsCell, row_key};
+ghost use Rattle.ov_sqlite.specs.Joining.{line_parts, head_parts, with_cell, entry_in};
 
 use crate::columns::{cell_columns_of, head_columns_of};
+use crate::rows::is_above;
+use crate::value::number_at;
 use ov_base::{Bytes, Text};
 use ov_keeper::{Cell, CellLine};
+use ov_tables::TakesRows;
 use sqlite::Row;
 use std::alloc::{AllocError, Global};
 use uuid::Uuid;
 
 /// The rows of the heads, without cells. `None` if a row is no head.
-fn lines_of_heads(alloc: Global, heads: &[Row]) -> Result<Option<Vec<CellLine>>, AllocError>
+pub(crate) fn lines_of_heads(
+    alloc: Global,
+    heads: &[Row],
+) -> Result<Option<Vec<CellLine>>, AllocError>
     ensures some { IfOk result (λ all. IfSome all
         (λ lines. map line_parts lines.items ≡ map (head_parts []) heads.now)) }
     ensures none { IfOk result (λ all. IfNone all (¬ AllByRecursion IsHead heads.now)) }
@@ -87,6 +92,7 @@ fn put_cell(
     last: usize,
     cell: &Row,
 ) -> Result<Option<usize>, AllocError>
+    ensures is_cell { IfOk result (λ o. IfSome o (λ _. IsCell cell.now)) }
     ensures put { IfOk result (λ o. IfSome o (λ at. (at < length lines.old.items)
         × IfSome (slice_get lines.old.items at)
         (λ l. same_key (line_parts l).0 (row_key cell.now) ≡ true)
@@ -106,29 +112,55 @@ fn put_cell(
     Ok(Some(at))
 }
 
-/// The heads with their cells, in the order of the heads. `None` if a row is no head or no cell, or a cell has no head.
-pub(crate) fn join(
+/// The rows with the cells that were put into them so far. It takes the rows of `cell` one at a time.
+#[derive(Drop)]
+pub(crate) struct Joining {
     alloc: Global,
-    heads: &[Row],
-    cells: &[Row],
-) -> Result<Option<Vec<CellLine>>, AllocError>
-    ensures some { IfOk result (λ all. IfSome all (λ lines. AreDistinct heads.now
-        → map line_parts lines.items ≡ map (head_parts cells.now) heads.now)) }
-    ensures owned { IfOk result (λ all. IfSome all (λ _. AreDistinct heads.now
-        → have_heads (map head_of heads.now) (map cell_of cells.now) ≡ true)) }
-    ensures none { IfOk result (λ all. IfNone all (AreDistinct heads.now
-        → AllByRecursion IsHead heads.now → AllByRecursion IsCell cells.now
-        → have_heads (map head_of heads.now) (map cell_of cells.now) ≡ false)) }
-{
-    let Some(mut lines) = lines_of_heads(alloc, heads)? else {
-        return Ok(None);
-    };
-    let mut last = 0;
-    for cell in cells {
-        let Some(at) = put_cell(alloc, &mut lines, last, cell)? else {
-            return Ok(None);
-        };
-        last = at;
+    pub lines: Vec<CellLine>,
+    /// The place of the row that got the last cell.
+    place: usize,
+    /// The number of the last cell.
+    number: Option<i64>,
+    /// The last row was refused, since it is no cell or has no head.
+    pub is_malformed: bool,
+}
+
+impl Joining {
+    /// Begins with rows that have no cells.
+    pub(crate) fn new(alloc: Global, lines: Vec<CellLine>) -> Joining
+        ensures lines { result.lines ≡ lines }
+        ensures sound { result.is_malformed ≡ false }
+    {
+        Joining {
+            alloc,
+            lines,
+            place: 0,
+            number: None,
+            is_malformed: false,
+        }
     }
-    Ok(Some(lines))
+}
+
+impl TakesRows for Joining {
+    ghost use Rattle.ov_sqlite.specs.Joined.{HasJoined, HasRefused};
+
+    ghost has_taken = { HasJoined };
+
+    ghost has_refused = { HasRefused };
+
+    fn take(&mut self, row: &Row) -> Result<bool, AllocError> {
+        let Some(number) = number_at(row, 0) else {
+            return Ok(false);
+        };
+        if !is_above(number, self.number) {
+            return Ok(false);
+        }
+        let Some(place) = put_cell(self.alloc, &mut self.lines, self.place, row)? else {
+            self.is_malformed = true;
+            return Ok(false);
+        };
+        self.place = place;
+        self.number = Some(number);
+        Ok(true)
+    }
 }

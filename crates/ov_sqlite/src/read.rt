@@ -4,18 +4,19 @@ ghost use Rattle.std.specs.Prelude.{◌≡◌, ◌≢◌, codes, false, IfOk, Is
 ghost use Rattle.std.specs.List.{AllByRecursion};
 ghost use Rattle.sqlite.specs.State.{HasCleanDisk, Survives};
 ghost use Rattle.sqlite.specs.Held.{state};
-ghost use Rattle.ov_tables.specs.Tables.{meta_table, line_table, head_table, cell_table};
-ghost use Rattle.ov_tables.specs.Format.{IsMeta, IsLine, IsHead, IsCell, entry, head_of, cell_of};
-ghost use Rattle.ov_tables.specs.Format.{rows_of_meta, rows_of_line, rows_of_head, rows_of_cell};
+ghost use Rattle.ov_tables.specs.Tables.{meta_table, line_table, head_table};
+ghost use Rattle.ov_tables.specs.Format.{IsMeta, IsLine, IsHead, entry, head_of};
+ghost use Rattle.ov_tables.specs.Format.{rows_of_meta, rows_of_line, rows_of_head};
 ghost use Rattle.ov_tables.specs.Querying.{IsAsBefore, MayRead, head_selected, row_selected};
-ghost use Rattle.ov_sqlite.specs.Reading.{ReadsRows};
+ghost use Rattle.ov_sqlite.specs.Reading.{ReadsRows, ReadsHeads};
 
 use crate::fault::fault_of;
+use crate::join::lines_of_heads;
 use crate::meta::meta_of;
-use crate::rows::{are_cells, are_heads, are_lines, test_numbers};
+use crate::rows::{are_heads, are_lines, test_numbers};
 use ov_base::Text;
-use ov_keeper::KeepFault;
-use ov_tables::{cell_rows, head_rows, line_rows, meta_rows};
+use ov_keeper::{CellLine, KeepFault};
+use ov_tables::{head_rows, line_rows, meta_rows};
 use sqlite::{Alter, Connection, Row};
 use std::alloc::Global;
 
@@ -95,7 +96,7 @@ pub(crate) fn read_lines<S: Alter>(conn: &mut Connection<S>) -> Result<Vec<Row>,
 }
 
 /// The rows of `head`. Returns `Format` if one of them is no head.
-pub(crate) fn read_heads<S: Alter>(conn: &mut Connection<S>) -> Result<Vec<Row>, KeepFault>
+fn read_heads<S: Alter>(conn: &mut Connection<S>) -> Result<Vec<Row>, KeepFault>
     requires { conn.old.in_transaction ≡ false }
     ensures mode { conn.new.in_transaction ≡ false }
     ensures ok { HasCleanDisk (state S.Store conn.new)
@@ -126,34 +127,34 @@ pub(crate) fn read_heads<S: Alter>(conn: &mut Connection<S>) -> Result<Vec<Row>,
     Ok(rows)
 }
 
-/// The rows of `cell`. Returns `Format` if one of them is no cell.
-pub(crate) fn read_cells<S: Alter>(conn: &mut Connection<S>) -> Result<Vec<Row>, KeepFault>
+/// The lines of the heads, without cells. Returns `Format` if a row is no head.
+pub(crate) fn read_bare_lines<S: Alter>(
+    alloc: Global,
+    conn: &mut Connection<S>,
+) -> Result<Vec<CellLine>, KeepFault>
     requires { conn.old.in_transaction ≡ false }
     ensures mode { conn.new.in_transaction ≡ false }
     ensures ok { HasCleanDisk (state S.Store conn.new)
-        → MayRead cell_table (codes "cell") (state S.Store conn.old)
-        → IfOk result (λ rows. IsTrue (state S.Store conn.old).is_open
-        × ReadsRows IsCell cell_of row_selected
-        (rows_of_cell (state S.Store conn.old).now.trees) rows.items) }
+        → MayRead head_table (codes "head") (state S.Store conn.old)
+        → IfOk result (λ lines. IsTrue (state S.Store conn.old).is_open
+        × ReadsHeads (rows_of_head (state S.Store conn.old).now.trees) lines.items) }
     ensures format { HasCleanDisk (state S.Store conn.new)
-        → MayRead cell_table (codes "cell") (state S.Store conn.old)
+        → MayRead head_table (codes "head") (state S.Store conn.old)
         → result ≡ Err KeepFault.Format → IsTrue (state S.Store conn.old).is_open
-        × (¬ AllByRecursion IsCell (rows_of_cell (state S.Store conn.old).now.trees)) }
+        × (¬ AllByRecursion IsHead (rows_of_head (state S.Store conn.old).now.trees)) }
     ensures ours { result ≢ Err KeepFault.NotOurs }
     ensures same { HasCleanDisk (state S.Store conn.new)
         → IsAsBefore (state S.Store conn.old) (state S.Store conn.new) }
     ensures survives { Survives (state S.Store conn.old) (state S.Store conn.new) (λ _. ⊥) }
 {
-    let rows = match cell_rows(conn) {
-        Ok(rows) => rows,
-        Err(error) => return Err(fault_of(&error)),
-    };
-    match test_numbers(rows.as_slice()) {
-        Ok(()) => {}
+    let heads = match read_heads(conn) {
+        Ok(heads) => heads,
         Err(fault) => return Err(fault),
+    };
+    match lines_of_heads(alloc, heads.as_slice()) {
+        Ok(Some(lines)) => Ok(lines),
+        // Each row was tested.
+        Ok(None) => Err(KeepFault::Device),
+        Err(_) => Err(KeepFault::Memory),
     }
-    if !are_cells(rows.as_slice()) {
-        return Err(KeepFault::Format);
-    }
-    Ok(rows)
 }

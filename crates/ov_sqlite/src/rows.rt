@@ -2,17 +2,17 @@
 
 ghost use Rattle.std.specs.Prelude.{◌≡◌, ◌↔◌, ◌<ℤ◌, OnOk, IfSome, IsTrue, Err};
 ghost use Rattle.std.specs.List.{AllByRecursion};
-ghost use Rattle.ov_tables.specs.Format.{IsLine, IsHead, IsCell};
+ghost use Rattle.ov_tables.specs.Format.{IsLine, IsHead};
 ghost use Rattle.ov_tables.specs.Holding.{IsNumbered};
 ghost use Rattle.ov_sqlite.specs.Joining.{AreNumbered};
 
-use crate::columns::{cell_columns_of, head_columns_of, line_columns_of};
+use crate::columns::{head_columns_of, line_columns_of};
 use crate::value::number_at;
 use ov_keeper::KeepFault;
 use sqlite::Row;
 
 /// Whether a row's number is greater than the last one.
-fn is_above(number: i64, last: Option<i64>) -> bool
+pub(crate) fn is_above(number: i64, last: Option<i64>) -> bool
     ensures { IsTrue result → IfSome last (λ n. n <ℤ number) }
 {
     match last {
@@ -76,22 +76,4 @@ fn is_head(row: &Row) -> bool
     ensures { IsTrue result ↔ IsHead row.now }
 {
     head_columns_of(row).is_some()
-}
-
-/// Whether each row is a cell.
-pub(crate) fn are_cells(rows: &[Row]) -> bool
-    ensures { IsTrue result ↔ AllByRecursion IsCell rows.now }
-{
-    for row in rows {
-        if !is_cell(row) {
-            return false;
-        }
-    }
-    true
-}
-
-fn is_cell(row: &Row) -> bool
-    ensures { IsTrue result ↔ IsCell row.now }
-{
-    cell_columns_of(row).is_some()
 }

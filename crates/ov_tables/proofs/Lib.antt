@@ -13,6 +13,7 @@ pub mod RemoveLemmas
 pub mod InsertLemmas
 pub mod KeepLemmas
 pub mod ReadLemmas
+pub mod EachLemmas
 pub mod RoomLemmas
 pub mod CreateLemmas
 pub mod MetaLemmas

@@ -101,10 +101,10 @@ rolled_as_before old begun mid new opens settled kept back = record {
 }
 
 -- a text that was compiled, or was not, leaves a settled connection as it was
-unchanged_as_before : (a b : State) → IsUnchanged a b → IsAsBefore a b
+pub unchanged_as_before : (a b : State) → IsUnchanged a b → IsAsBefore a b
 unchanged_as_before a b same = record { was_open = λ _. same.0.was_open; now = λ _. same.0.now_is }
 
-not_run_as_before : (a b : State) (sql : List ℕ) (params : Row) (e : Error) → IsNotRun a b sql params e → (IsTrue a.is_open → a.now ≡ a.committed) → IsAsBefore a b
+pub not_run_as_before : (a b : State) (sql : List ℕ) (params : Row) (e : Error) → IsNotRun a b sql params e → (IsTrue a.is_open → a.now ≡ a.committed) → IsAsBefore a b
 unfolding IsNotRun
 not_run_as_before a b sql params e (inl refused) settled = unchanged_as_before a b refused.1
 not_run_as_before a b sql params e (inr fails) settled = record {

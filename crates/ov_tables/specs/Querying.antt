@@ -1,5 +1,6 @@
 -- What a query of a whole table returns, and what it leaves of a connection.
-use Rattle.std.specs.Prelude.{◌≡◌, ℕ, List, [], ◌∷◌, IsTrue}
+use Rattle.std.specs.Prelude.{◌≡◌, ℕ, Bool, true, false, List, [], ◌∷◌, ◌++◌, IsTrue}
+use Rattle.std.specs.List.Sorted.{IsPermutation}
 use Rattle.sqlite.specs.Order.{Row, column}
 use Rattle.sqlite.specs.Table.{Table}
 use Rattle.sqlite.specs.State.{State}
@@ -24,3 +25,10 @@ MayRead table name s = IsTrue s.is_open → HasTable s.now.schema (table (tree_o
 pub record IsAsBefore (old new : State) : Type 0 where
   pub was_open : IsTrue new.is_open → IsTrue old.is_open
   pub now : IsTrue new.is_open → new.now ≡ old.now
+
+-- the rows of a table were given one at a time, and all were taken, or the last that was given was refused
+abbrev pub GivesRows : (List Row → Type 0) → (List Row → Type 0) → List Row → Bool → Type 0
+GivesRows HasTaken HasRefused stored true =
+    (rows : List Row) × IsPermutation stored rows × HasTaken rows
+GivesRows HasTaken HasRefused stored false =
+    (rows : List Row) × (rest : List Row) × IsPermutation stored (rows ++ rest) × HasRefused rows

@@ -5,8 +5,8 @@ ghost use Rattle.std.specs.List.Sorted.{IsPermutation};
 ghost use Rattle.sqlite.specs.State.{HasCleanDisk, Survives, Shown};
 ghost use Rattle.sqlite.specs.Effect.{IsDatabase};
 ghost use Rattle.sqlite.specs.Held.{state};
-ghost use Rattle.ov_tables.specs.Format.{rows_of_meta, rows_of_line, rows_of_head, rows_of_cell};
-ghost use Rattle.ov_tables.specs.Tables.{meta_table, line_table, head_table, cell_table};
+ghost use Rattle.ov_tables.specs.Format.{rows_of_meta, rows_of_line, rows_of_head};
+ghost use Rattle.ov_tables.specs.Tables.{meta_table, line_table, head_table};
 ghost use Rattle.ov_tables.specs.Querying.{IsAsBefore, MayRead, meta_selected, head_selected};
 ghost use Rattle.ov_tables.specs.Querying.{row_selected};
 
@@ -93,23 +93,4 @@ pub fn head_rows<S: Alter>(conn: &mut Connection<S>) -> Result<Vec<Row>, Error>
     ensures survives { Survives (state S.Store conn.old) (state S.Store conn.new) (λ _. ⊥) }
 {
     query(conn, "SELECT rowid,tbl,id,ver FROM head")
-}
-
-/// The rows of `cell`, each with its number. The connection holds what it held before, or is closed.
-pub fn cell_rows<S: Alter>(conn: &mut Connection<S>) -> Result<Vec<Row>, Error>
-    requires { conn.old.in_transaction ≡ false }
-    ensures mode { conn.new.in_transaction ≡ false }
-    ensures rows { HasCleanDisk (state S.Store conn.new)
-        → MayRead cell_table (codes "cell") (state S.Store conn.old)
-        → IfOk result (λ rows. IsTrue (state S.Store conn.old).is_open
-        × IsPermutation
-        (map row_selected (rows_of_cell (state S.Store conn.old).now.trees)) rows.items) }
-    ensures settled { IsTrue (state S.Store conn.old).is_open
-        → ((state S.Store conn.old).now ≡ (state S.Store conn.old).committed)
-        × IsDatabase (state S.Store conn.old).now }
-    ensures same { HasCleanDisk (state S.Store conn.new)
-        → IsAsBefore (state S.Store conn.old) (state S.Store conn.new) }
-    ensures survives { Survives (state S.Store conn.old) (state S.Store conn.new) (λ _. ⊥) }
-{
-    query(conn, "SELECT rowid,tbl,id,col,body FROM cell")
 }
