@@ -68,18 +68,22 @@ pub(crate) fn loaded_converted(
     alloc: Global,
     schema: &Schema,
     version: Uuid,
-    loaded: &Loaded,
+    loaded: Loaded,
 ) -> Result<Resident, OpenFault>
     ensures ok { IfOk result (λ resident. converted_from
-        (schema_stored loaded.now.schema) schema.now version (lines_view loaded.now.lines)
+        (schema_stored loaded.schema) schema.now version (lines_view loaded.lines)
         ≡ Ok resident.rows) }
     ensures err { IfErr result (IsRefused (converted_from
-        (schema_stored loaded.now.schema) schema.now version (lines_view loaded.now.lines))) }
+        (schema_stored loaded.schema) schema.now version (lines_view loaded.lines))) }
     ensures suits { IfOk result (λ resident. Suits schema.now resident.rows) }
     ensures whole { IfOk result (λ resident. is_whole schema.now resident.rows ≡ true) }
     ensures beside { IfOk result (λ resident. IsBeside schema.now resident.rows resident) }
 {
-    let old = schema_stored(alloc, loaded.schema.as_str().as_bytes())?;
-    let rows = rows_of(alloc, &old, &loaded.lines)?;
+    let Loaded {
+        schema: text,
+        lines,
+    } = loaded;
+    let old = schema_stored(alloc, text.as_str().as_bytes())?;
+    let rows = rows_of(alloc, &old, lines)?;
     converted(alloc, &old, schema, version, rows)
 }

@@ -30,28 +30,29 @@ pub(crate) fn has_text(alloc: Global, schema: &Schema, loaded: &Loaded) -> Resul
     Ok(loaded.schema.as_str().as_bytes() == text.as_slice())
 }
 
-/// The rows that were loaded. If two of them have the same key, the first counts. Those of format 2 read back.
-pub(crate) fn rows_of(alloc: Global, schema: &Schema, lines: &Lines) -> Result<Rows, OpenFault>
-    ensures loaded { IsLoaded (λ rows. rows) (held schema.now (lines_view lines.now)) result }
+/// The rows that were loaded. If two of them have the same key, the first counts. Those of format 2 read back. Each line is
+/// dropped once its row is made, so the two are not in memory together.
+pub(crate) fn rows_of(alloc: Global, schema: &Schema, lines: Lines) -> Result<Rows, OpenFault>
+    ensures loaded { IsLoaded (λ rows. rows) (held schema.now (lines_view lines)) result }
     ensures suits { IfOk result (Suits schema.now) }
-    ensures kept { format_of (lines_view lines.now) ≡ 2 → IfOk result (KeepsRows schema.now) }
+    ensures kept { format_of (lines_view lines) ≡ 2 → IfOk result (KeepsRows schema.now) }
 {
     match lines {
-        Lines::Whole(lines) => rows_of_lines(alloc, schema, lines.as_slice()),
-        Lines::InCells(lines) => rows_in_cells(alloc, schema, lines.as_slice()),
+        Lines::Whole(lines) => rows_of_lines(alloc, schema, lines),
+        Lines::InCells(lines) => rows_in_cells(alloc, schema, lines),
     }
 }
 
 /// The rows that the lines of format 1 store.
-fn rows_of_lines(alloc: Global, schema: &Schema, lines: &[Line]) -> Result<Rows, OpenFault>
+fn rows_of_lines(alloc: Global, schema: &Schema, lines: Vec<Line>) -> Result<Rows, OpenFault>
     ensures loaded { IsLoaded (λ rows. rows) (with_lines schema.now
-        (map whole_entry lines.now) empty) result }
+        (map whole_entry lines.items) empty) result }
     ensures suits { IfOk result (Suits schema.now) }
 {
     let mut reader = BodyReader::new(alloc);
     let mut rows = Rows::new(alloc);
     for line in lines {
-        add_line(alloc, &mut reader, schema, line, &mut rows)?;
+        add_line(alloc, &mut reader, schema, &line, &mut rows)?;
     }
     Ok(rows)
 }
@@ -85,15 +86,15 @@ fn add_line(
 }
 
 /// The rows that are stored in cells. Each of them reads back.
-fn rows_in_cells(alloc: Global, schema: &Schema, lines: &[CellLine]) -> Result<Rows, OpenFault>
+fn rows_in_cells(alloc: Global, schema: &Schema, lines: Vec<CellLine>) -> Result<Rows, OpenFault>
     ensures loaded { IsLoaded (λ rows. rows) (with_lines schema.now
-        (map cells_entry lines.now) empty) result }
+        (map cells_entry lines.items) empty) result }
     ensures kept { IfOk result (KeepsRows schema.now) }
 {
     let mut reader = BodyReader::new(alloc);
     let mut rows = Rows::new(alloc);
     for line in lines {
-        add_cells(alloc, &mut reader, schema, line, &mut rows)?;
+        add_cells(alloc, &mut reader, schema, &line, &mut rows)?;
     }
     Ok(rows)
 }

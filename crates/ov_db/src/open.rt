@@ -42,11 +42,11 @@ pub(crate) fn open_whole<K: Keeper>(
 {
     let loaded = keeper.load(alloc)?;
     let has_text = has_text(alloc, schema, &loaded)?;
-    let resident = resident_of(alloc, schema, version, &loaded, has_text)?;
-    if is_current(keeper, &loaded.lines, has_text) {
+    let is_current = is_current(keeper, &loaded.lines, has_text);
+    let resident = resident_of(alloc, schema, version, loaded, has_text)?;
+    if is_current {
         return Ok(resident);
     }
-    drop(loaded);
     write_rows(alloc, keeper, schema, &resident.rows)?;
     Ok(resident)
 }
@@ -74,22 +74,23 @@ fn resident_of(
     alloc: Global,
     schema: &Schema,
     version: Option<Uuid>,
-    loaded: &Loaded,
+    loaded: Loaded,
     has_text: bool,
 ) -> Result<Resident, OpenFault>
-    requires { IsTrue has_text ↔ (loaded.now.schema ≡ compact_text schema.now.tree) }
-    ensures ok { IfOk result (λ resident. opens_as schema.now version (loaded_contents loaded.now)
+    requires { IsTrue has_text ↔ (loaded.schema ≡ compact_text schema.now.tree) }
+    ensures ok { IfOk result (λ resident. opens_as schema.now version (loaded_contents loaded)
         ≡ Ok resident.rows) }
     ensures err { IfErr result (IsRefused (opens_as schema.now version
-        (loaded_contents loaded.now))) }
-    ensures kept { has_text ≡ true → format_of (lines_view loaded.now.lines) ≡ 2
+        (loaded_contents loaded))) }
+    ensures kept { has_text ≡ true → format_of (lines_view loaded.lines) ≡ 2
         → IfOk result (λ resident. KeepsRows schema.now resident.rows) }
     ensures suits { IfOk result (λ resident. Suits schema.now resident.rows) }
     ensures whole { IfOk result (λ resident. is_whole schema.now resident.rows ≡ true) }
     ensures beside { IfOk result (λ resident. IsBeside schema.now resident.rows resident) }
 {
     if has_text {
-        return own_resident(alloc, schema, &loaded.lines);
+        let Loaded { schema: _, lines } = loaded;
+        return own_resident(alloc, schema, lines);
     }
     match version {
         Some(version) => loaded_converted(alloc, schema, version, loaded),
@@ -99,12 +100,12 @@ fn resident_of(
 
 /// The rows that were loaded under the schema's own text, and their links and indexes, if a commit would leave the rows as they
 /// are.
-fn own_resident(alloc: Global, schema: &Schema, lines: &Lines) -> Result<Resident, OpenFault>
-    ensures ok { IfOk result (λ resident. if_held (held schema.now (lines_view lines.now))
+fn own_resident(alloc: Global, schema: &Schema, lines: Lines) -> Result<Resident, OpenFault>
+    ensures ok { IfOk result (λ resident. if_held (held schema.now (lines_view lines))
         (opened schema.now) ≡ Ok resident.rows) }
-    ensures err { IfErr result (IsRefused (if_held (held schema.now (lines_view lines.now))
+    ensures err { IfErr result (IsRefused (if_held (held schema.now (lines_view lines))
         (opened schema.now))) }
-    ensures kept { format_of (lines_view lines.now) ≡ 2 → IfOk result
+    ensures kept { format_of (lines_view lines) ≡ 2 → IfOk result
         (λ resident. KeepsRows schema.now resident.rows) }
     ensures suits { IfOk result (λ resident. Suits schema.now resident.rows) }
     ensures whole { IfOk result (λ resident. is_whole schema.now resident.rows ≡ true) }

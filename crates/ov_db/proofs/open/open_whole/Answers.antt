@@ -22,7 +22,7 @@ returns-then-is_current-clause-opens g c =
     let is = c.in_ok-loaded.ensures in
     let loads : Loads g.K.Keeper c.args.keeper.now c.load.new.self loaded =
     record { ok = is.ok; same = is.same; same_format = is.same_format; of_format = is.of_format; counts = is.counts; honest = is.honest } in
-    let parts = and_parts c.in_ok-has_text.has_text (format_of loaded.lines == 2 && g.K.Keeper.format c.load.new.self == 2) (sym c.is_current.ensures ∙ c.if-is_current.true) in
+    let parts = and_parts c.in_ok-has_text.has_text (format_of loaded.lines == 2 && g.K.Keeper.format c.load.new.self == 2) (sym c.is_current-is_current.ensures ∙ c.if-is_current.true) in
     let formats = and_parts (format_of loaded.lines == 2) (g.K.Keeper.format c.load.new.self == 2) parts.1 in
     let in_cells = two_is (format_of loaded.lines) formats.0 in
     current g.K.Keeper c.args.schema.now c.args.version c.args.keeper.now c.load.new.self loaded loads c.in_ok-resident.resident.rows c.in_ok-resident.ensures.ok c.in_ok-resident.ensures.whole
@@ -38,7 +38,7 @@ returns-in_err-write_rows-clause-refuses g c =
     let now = c.in_err-write_rows.ensures in
     rw (p.1, p.2) (
     unwritten g.K.Keeper c.args.schema.now c.args.version c.args.keeper.now c.load.new.self loaded loads c.in_ok-resident.resident.rows c.in_ok-resident.ensures.ok c.in_ok-resident.ensures.whole c.write_rows.new.keeper
-    c.in_ok-has_text.has_text c.in_ok-has_text.ensures.has (sym c.is_current.ensures ∙ c.if-is_current.false) now.honest c.in_err-write_rows.field-0.0 now.same_format now.kinds now.err (λ e. now.cause (ap Err e)) now.counts)
+    c.in_ok-has_text.has_text c.in_ok-has_text.ensures.has (sym c.is_current-is_current.ensures ∙ c.if-is_current.false) now.honest c.in_err-write_rows.field-0.0 now.same_format now.kinds now.err (λ e. now.cause (ap Err e)) now.counts)
 
 pub returns-clause-opens : goal.returns-clause-opens
 returns-clause-opens g c =
@@ -48,4 +48,4 @@ returns-clause-opens g c =
     record { ok = is.ok; same = is.same; same_format = is.same_format; of_format = is.of_format; counts = is.counts; honest = is.honest } in
     let now = c.in_ok-write_rows.ensures in
     written g.K.Keeper c.args.schema.now c.args.version c.args.keeper.now c.load.new.self loaded loads c.in_ok-resident.resident.rows c.in_ok-resident.ensures.ok c.in_ok-resident.ensures.whole c.write_rows.new.keeper
-    c.in_ok-has_text.has_text c.in_ok-has_text.ensures.has (sym c.is_current.ensures ∙ c.if-is_current.false) now.honest now.new_format now.kept now.ok
+    c.in_ok-has_text.has_text c.in_ok-has_text.ensures.has (sym c.is_current-is_current.ensures ∙ c.if-is_current.false) now.honest now.new_format now.kept now.ok
