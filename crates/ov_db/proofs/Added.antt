@@ -2,10 +2,10 @@
 use Rattle.std.proofs.Common.{◌≡◌, List, [], ◌∷◌, ◌++◌, Bool, true, false, cond, Option, Some, None, is_some, refl, sym, ap, ◌∙◌}
 use Rattle.std.specs.FinMap.{get, insert, remove, contains_key, get-insert, get-remove, same_map}
 use Rattle.std.specs.Ordering.{eq_by_cmp}
+use Rattle.ov_specs.specs.operations.MatchingRows.{without_rows}
 use Rattle.ov_specs.specs.rows.Database.{Database, Row}
 use Rattle.ov_specs.specs.rows.Lines.{LineKey, line_cmp}
 use Rattle.ov_specs.proofs.laws.LineKeys.{key_exact, key_total, same_tied, tied_same}
-use Rattle.ov_db.specs.Adding.{without_rows}
 
 abbrev pub same : LineKey → LineKey → Bool
 same = eq_by_cmp line_cmp
@@ -41,10 +41,20 @@ absent db k h = not_some (get db k) h
 
 -- ---- several rows
 
--- the last key goes first
+in_any_order : {A : Type 0} (b d : Bool) (x y : A) → cond b x (cond d x y) ≡ cond d x (cond b x y)
+in_any_order true true x y = refl
+in_any_order true false x y = refl
+in_any_order false d x y = refl
+
+remove-swap : (db : Database) (a b : LineKey) → remove (remove db a) b ≡ remove (remove db b) a
+remove-swap db a b = same_map key_total key_exact _ _ (λ q.
+    get-remove key_total (remove db a) b q ∙ ap (cond (same q b) None) (get-remove key_total db a q) ∙ in_any_order (same q b) (same q a) None (get db q)
+    ∙ sym (get-remove key_total (remove db b) a q ∙ ap (cond (same q a) None) (get-remove key_total db b q)))
+
+-- the last key may go first
 pub without-push : (ks : List LineKey) (k : LineKey) (db : Database) → without_rows (ks ++ k ∷ []) db ≡ without_rows ks (remove db k)
 without-push [] k db = refl
-without-push (x ∷ ks) k db = ap (λ (d : Database). remove d x) (without-push ks k db)
+without-push (x ∷ ks) k db = without-push ks k (remove db x) ∙ ap (without_rows ks) (remove-swap db x k)
 
 -- a row that is added and listed changes nothing of what was there before
 pub without-added : (ks : List LineKey) (k : LineKey) (r : Row) (db : Database) → contains_key db k ≡ false → without_rows (ks ++ k ∷ []) (insert db k r) ≡ without_rows ks db

@@ -2,9 +2,10 @@
 use Rattle.std.specs.Prelude.{◌≡◌, []}
 use Rattle.ov_index.specs.Indexing.{AreIndexesOf, without_entries}
 use Rattle.ov_refs.specs.Linking.{AreLinksOf, without_references}
+use Rattle.ov_specs.specs.operations.MatchingRows.{without_rows}
 use Rattle.ov_specs.specs.rows.Database.{Database}
 use Rattle.ov_specs.specs.schema.SchemaTypes.{Schema}
-use Rattle.ov_db.specs.Adding.{lent_keys, without_rows}
+use Rattle.ov_db.specs.Adding.{lent_keys}
 use Rattle.ov_db.specs.Changing.{Delta, applied}
 use Rattle.ov_db.specs.Placing.{IsPlaced, IsSameBeside}
 use Rattle.ov_db.specs.declared.resident.Resident.{Resident}

@@ -1,10 +1,11 @@
 ghost use Rattle.std.specs.Prelude.{◌≡◌, ◌++◌, [], map, true, false, is_some, IfOk, OnOk, None};
 ghost use Rattle.std.specs.FinMap.{entries, get, contains_key};
 ghost use Rattle.std.specs.Ordering.{eq_by_cmp};
+ghost use Rattle.ov_specs.specs.operations.MatchingRows.{without_rows};
 ghost use Rattle.ov_specs.specs.rows.Cells.{RemoveCells, cell_line_of};
 ghost use Rattle.ov_specs.specs.rows.Lines.{LineKey, line_cmp};
 ghost use Rattle.ov_keeper.specs.Views.{changes_view, change_view, cell_line_entry};
-ghost use Rattle.ov_db.specs.Adding.{lent_keys, without_rows};
+ghost use Rattle.ov_db.specs.Adding.{lent_keys};
 ghost use Rattle.ov_db.specs.Changing.{applied, as_puts, change_of, with_row};
 ghost use Rattle.ov_rows.specs.Nested.{in_table};
 ghost use Rattle.ov_db.specs.Placing.{IsPlaced, IsSameBeside};

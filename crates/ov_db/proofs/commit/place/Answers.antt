@@ -1,8 +1,9 @@
 use Rattle.std.proofs.Common.{◌≡◌, ◌∷◌, T, Option, refl, sym, ap, subst, ◌∙◌}
 use Rattle.std.specs.FinMap.{find, get, is_sorted, get-from_sorted}
+use Rattle.ov_specs.specs.operations.MatchingRows.{without_rows}
 use Rattle.ov_specs.specs.rows.Database.{Row}
 use Rattle.ov_specs.specs.rows.Lines.{LineKey, line_cmp}
-use Rattle.ov_db.specs.Adding.{lent_keys, without_rows}
+use Rattle.ov_db.specs.Adding.{lent_keys}
 use Rattle.ov_db.specs.Changing.{Delta}
 use Rattle.ov_db.proofs.Places.{Changes, sorted-rest, found-later, not-next, not-there, left-later, all-placed}
 use Rattle.ov_db.proofs.commit.place.Goals as goal

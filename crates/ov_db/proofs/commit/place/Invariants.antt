@@ -1,8 +1,9 @@
 use Rattle.std.proofs.Common.{◌≡◌, T, Option, Some, None, false}
 use Rattle.std.specs.FinMap.{find, is_sorted, get, contains_key}
+use Rattle.ov_specs.specs.operations.MatchingRows.{without_rows}
 use Rattle.ov_specs.specs.rows.Database.{Row}
 use Rattle.ov_specs.specs.rows.Lines.{LineKey, line_cmp}
-use Rattle.ov_db.specs.Adding.{lent_keys, without_rows}
+use Rattle.ov_db.specs.Adding.{lent_keys}
 use Rattle.ov_db.proofs.commit.place.Given as goal
 
 abbrev pub invariant-loop-key : goal.invariant-loop-key

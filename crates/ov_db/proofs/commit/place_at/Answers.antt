@@ -1,10 +1,11 @@
 use Rattle.std.proofs.Common.{◌≡◌, ◌∷◌, [], ◌++◌, Bor, sym, ap, ◌∙◌}
 use Rattle.std.proofs.lemmas.List.{map-append}
 use Rattle.std.specs.FinMap.{keys}
+use Rattle.ov_specs.specs.operations.MatchingRows.{without_rows}
 use Rattle.ov_specs.specs.rows.Database.{Columns}
 use Rattle.ov_rows.proofs.Names.{no_keys}
 use Rattle.ov_specs.specs.rows.Lines.{LineKey}
-use Rattle.ov_db.specs.Adding.{lent_keys, without_rows}
+use Rattle.ov_db.specs.Adding.{lent_keys}
 use Rattle.ov_db.proofs.Added.{without-added, other_stays, contains_more, contains_new}
 use Rattle.ov_db.proofs.commit.place_at.Goals as goal
 

@@ -1,7 +1,8 @@
 use Rattle.std.proofs.Common.{Bor, sym, ap, ◌∙◌}
 use Rattle.std.proofs.lemmas.List.{map-append}
+use Rattle.ov_specs.specs.operations.MatchingRows.{without_rows}
 use Rattle.ov_specs.specs.rows.Lines.{LineKey}
-use Rattle.ov_db.specs.Adding.{lent_keys, without_rows}
+use Rattle.ov_db.specs.Adding.{lent_keys}
 use Rattle.ov_db.proofs.Added.{without-push}
 use Rattle.ov_db.proofs.commit.take_out.Goals as goal
 

@@ -1,5 +1,6 @@
 use Rattle.std.proofs.Common.{◌≡◌, length}
-use Rattle.ov_db.specs.Adding.{lent_keys, without_rows}
+use Rattle.ov_specs.specs.operations.MatchingRows.{without_rows}
+use Rattle.ov_db.specs.Adding.{lent_keys}
 use Rattle.ov_db.proofs.commit.take_out.Given as goal
 
 abbrev pub invariant-loop-key : goal.invariant-loop-key
