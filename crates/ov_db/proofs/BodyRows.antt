@@ -1,18 +1,19 @@
--- The columns that a body has, added one by one, are those of the row that it is.
+-- The columns of a table with the values of their trees, added one by one, are all together.
 use Rattle.std.proofs.Common.{◌≡◌, ℕ, List, [], ◌∷◌, Bool, true, false, cond, T, Option, Some, None, option_map, option_and_then, refl, sym, ap, subst, ◌∙◌}
-use Rattle.std.specs.Prelude.{not}
+use Rattle.std.specs.Prelude.{not, if◌then◌else◌}
 use Rattle.std.specs.List.{filter}
 use Rattle.std.specs.FinMap.{empty, find, is_sorted, get, insert, entries, entries_sorted, from_entries, get-empty, get-insert, get-from_entries, same_map}
 use Rattle.std.specs.FinMap.Entries.{below_all}
+use Rattle.serde_json.specs.Data.{Data}
 use Rattle.ov_specs.specs.rows.Database.{Columns}
-use Rattle.ov_specs.specs.rows.Held.{Body, all_results, row_if_stored, row_of_body, value_held}
-use Rattle.ov_specs.specs.rows.RowNames.{is_own_column}
+use Rattle.ov_specs.specs.rows.Held.{all_results, row_if_stored, row_of_body, value_held}
+use Rattle.ov_specs.specs.rows.RowNames.{is_own_column, row_columns}
 use Rattle.ov_specs.specs.schema.SchemaTypes.{Column, Table, name_cmp}
 use Rattle.ov_specs.specs.values.Reading.{in_front}
 use Rattle.ov_specs.specs.values.Value.{Datum}
 use Rattle.ov_specs.proofs.laws.Names.{name_cmp_total, name_exact, same_name, find-first_not_later, sorted_rest}
 use Rattle.ov_specs.proofs.laws.Truths.{both_hold, left_holds, right_holds}
-use Rattle.ov_db.specs.Stored.{RowBody, columns_stored, row_of_table, value_stored}
+use Rattle.ov_db.specs.Stored.{RowBody, columns_by, row_of_table, value_by, value_from}
 
 abbrev Values : Type 0
 Values = List (List ℕ × Datum)
@@ -44,33 +45,40 @@ put_all-from : (vs : Values) → T (is_sorted name_cmp vs) → put_all vs empty 
 put_all-from vs h = same_map name_cmp_total name_exact _ _ (λ q.
     get-put_all vs empty q h ∙ ap (or_value (find name_cmp q vs)) (get-empty name_cmp q) ∙ or_nothing (find name_cmp q vs) ∙ sym (get-from_entries name_cmp_total vs q))
 
-module _ (body : Body) where
+-- these columns added to those before, each with the value of its tree, but for the columns that every row has by itself
+abbrev pub added_by : (List ℕ → Option Data) → List (List ℕ × Column) → Columns → Option Columns
+added_by tree_at [] columns = Some columns
+added_by tree_at (c ∷ cs) columns =
+    if is_own_column c.0 then added_by tree_at cs columns
+    else option_and_then (λ datum. added_by tree_at cs (insert columns c.0 datum)) (value_from (tree_at c.0) c.1)
+
+module _ (tree_at : List ℕ → Option Data) where
   abbrev kept : List (List ℕ × Column) → List (List ℕ × Column)
   kept cs = filter (λ c. not (is_own_column c.0)) cs
 
   abbrev held_all : List (List ℕ × Column) → Option Values
-  held_all cs = all_results (value_held body) (kept cs)
+  held_all cs = all_results (value_by tree_at) (kept cs)
 
-  -- ---- the values are those that were added
+  -- ---- the values that were added
 
-  one_more : (c : List ℕ × Column) (cs : List (List ℕ × Column)) (before : Columns) → ((more : Columns) → columns_stored body cs more ≡ option_map (λ vs. put_all vs more) (held_all cs))
-      → columns_stored body (c ∷ cs) before ≡ option_map (λ vs. put_all vs before) (held_all (c ∷ cs))
+  one_more : (c : List ℕ × Column) (cs : List (List ℕ × Column)) (before : Columns) → ((more : Columns) → added_by tree_at cs more ≡ option_map (λ vs. put_all vs more) (held_all cs))
+      → added_by tree_at (c ∷ cs) before ≡ option_map (λ vs. put_all vs before) (held_all (c ∷ cs))
   one_more c cs before next = by (is_own_column c.0)
     where
       by_rest : (datum : Datum) (r : Option Values) → option_map (λ vs. put_all vs (insert before c.0 datum)) r ≡ option_map (λ vs. put_all vs before) (in_front (Some (c.0, datum)) r)
       by_rest datum None = refl
       by_rest datum (Some vs) = refl
 
-      by_value : (o : Option Datum) → option_and_then (λ datum. columns_stored body cs (insert before c.0 datum)) o ≡ option_map (λ vs. put_all vs before) (in_front (option_map (λ datum. (c.0, datum)) o) (held_all cs))
+      by_value : (o : Option Datum) → option_and_then (λ datum. added_by tree_at cs (insert before c.0 datum)) o ≡ option_map (λ vs. put_all vs before) (in_front (option_map (λ datum. (c.0, datum)) o) (held_all cs))
       by_value None = refl
       by_value (Some datum) = next (insert before c.0 datum) ∙ by_rest datum (held_all cs)
 
-      by : (b : Bool) → cond b (columns_stored body cs before) (option_and_then (λ datum. columns_stored body cs (insert before c.0 datum)) (value_stored body c))
-          ≡ option_map (λ vs. put_all vs before) (all_results (value_held body) (cond (not b) (c ∷ kept cs) (kept cs)))
+      by : (b : Bool) → cond b (added_by tree_at cs before) (option_and_then (λ datum. added_by tree_at cs (insert before c.0 datum)) (value_from (tree_at c.0) c.1))
+          ≡ option_map (λ vs. put_all vs before) (all_results (value_by tree_at) (cond (not b) (c ∷ kept cs) (kept cs)))
       by true = next before
-      by false = by_value (value_stored body c)
+      by false = by_value (value_from (tree_at c.0) c.1)
 
-  added_all : (cs : List (List ℕ × Column)) (before : Columns) → columns_stored body cs before ≡ option_map (λ vs. put_all vs before) (held_all cs)
+  added_all : (cs : List (List ℕ × Column)) (before : Columns) → added_by tree_at cs before ≡ option_map (λ vs. put_all vs before) (held_all cs)
   added_all [] before = refl
   added_all (c ∷ cs) before = one_more c cs before (λ more. added_all cs more)
 
@@ -89,9 +97,9 @@ module _ (body : Body) where
       by_value None k = cc
       by_value (Some datum) k = by_rest datum (held_all cs) refl k
 
-      by : (b : Bool) → all_results (value_held body) (cond (not b) (c ∷ kept cs) (kept cs)) ≡ Some vs → P vs
+      by : (b : Bool) → all_results (value_by tree_at) (cond (not b) (c ∷ kept cs) (kept cs)) ≡ Some vs → P vs
       by true k = others vs k
-      by false k = by_value (value_stored body c) k
+      by false k = by_value (value_from (tree_at c.0) c.1) k
 
   below : (name : List ℕ) (cs : List (List ℕ × Column)) (vs : Values) → held_all cs ≡ Some vs → T (below_all name_cmp name cs) → T (below_all name_cmp name vs)
   below name [] [] h k = tt
@@ -105,13 +113,20 @@ module _ (body : Body) where
   ascend (c ∷ cs) vs h k =
       in_both c cs vs (λ ws. T (is_sorted name_cmp ws)) h (λ ws is. ascend cs ws is (right_holds _ _ k)) (λ ws datum is. both_hold _ _ (below c.0 cs ws is (left_holds _ _ k)) (ascend cs ws is (right_holds _ _ k)))
 
+  -- ---- all of them
+
+  pub columns_added : (table : Table) → columns_by tree_at table ≡ added_by tree_at (entries table.columns) empty
+  columns_added table = sym (added_all (entries table.columns) empty ∙ by (held_all (entries table.columns)) refl)
+    where
+      by : (o : Option Values) → held_all (entries table.columns) ≡ o → option_map (λ vs. put_all vs empty) o ≡ option_map from_entries o
+      by None is = refl
+      by (Some vs) is = ap Some (put_all-from vs (ascend (entries table.columns) vs is (entries_sorted table.columns)))
+
 -- ---- the row
 
 pub row_of_table_is : (table : Table) (stored : RowBody) → row_of_table table stored ≡ row_of_body table stored.0 stored.1
-row_of_table_is table stored =
-    ap (option_and_then (row_if_stored stored.0 stored.1)) (added_all stored.1 (entries table.columns) empty) ∙ by (held_all stored.1 (entries table.columns)) refl
+row_of_table_is table stored = by (all_results (value_held stored.1) (row_columns table))
   where
-    by : (o : Option Values) → held_all stored.1 (entries table.columns) ≡ o
-        → option_and_then (row_if_stored stored.0 stored.1) (option_map (λ vs. put_all vs empty) o) ≡ option_and_then (λ values. row_if_stored stored.0 stored.1 (from_entries values)) o
-    by None is = refl
-    by (Some vs) is = ap (row_if_stored stored.0 stored.1) (put_all-from vs (ascend stored.1 (entries table.columns) vs is (entries_sorted table.columns)))
+    by : (o : Option Values) → option_and_then (row_if_stored stored.0 stored.1) (option_map from_entries o) ≡ option_and_then (λ values. row_if_stored stored.0 stored.1 (from_entries values)) o
+    by None = refl
+    by (Some vs) = refl

@@ -1,6 +1,7 @@
 -- A row whose values are those of a table's columns is what is stored as its text, or as its cells.
 use Rattle.std.proofs.Common.{◌≡◌, ℕ, List, [], ◌∷◌, map, zip, ◌&&◌, Bool, true, false, cond, T, Option, Some, None, option_map, option_and_then, refl, sym, ap, ◌∙◌}
-use Rattle.std.specs.Prelude.{not}
+use Rattle.std.specs.Prelude.{not, filter, if◌then◌else◌}
+use Rattle.std.specs.Cmp.Lexicographic.{pointwise}
 use Rattle.std.proofs.lemmas.Bool.{and_parts}
 use Rattle.std.specs.FinMap.{find, is_sorted, get, keys, values, entries, entries_sorted, get-entries}
 use Rattle.std.specs.FinMap.Entries.{below_all}
@@ -51,6 +52,37 @@ ascend (c ∷ cs) h = by (not (is_own_column c.0)) (ascend cs (right_holds _ _ h
 pub row_names_ascend : (table : Table) → DoAscend (row_names table)
 row_names_ascend table = ascend (entries table.columns) (entries_sorted table.columns)
 
+-- ---- the values are tested one by one
+
+-- one value for each of these columns except those that every row has by itself
+abbrev pub are_rest_for : List (List ℕ × Column) → List Datum → Bool
+are_rest_for [] [] = true
+are_rest_for [] (v ∷ vs) = false
+are_rest_for (c ∷ cs) [] = if is_own_column c.0 then are_rest_for cs [] else false
+are_rest_for (c ∷ cs) (v ∷ vs) = if is_own_column c.0 then are_rest_for cs (v ∷ vs) else (is_value_for c.1 v && are_rest_for cs vs)
+
+abbrev are_kept_for : List (List ℕ × Column) → List Datum → Bool
+are_kept_for cs vs = pointwise (λ c datum. is_value_for c.1 datum) (filter (λ c. not (is_own_column c.0)) cs) vs
+
+rest_are_kept : (cs : List (List ℕ × Column)) (vs : List Datum) → are_kept_for cs vs ≡ are_rest_for cs vs
+rest_are_kept [] [] = refl
+rest_are_kept [] (v ∷ vs) = refl
+rest_are_kept (c ∷ cs) [] = by (is_own_column c.0) (rest_are_kept cs [])
+  where
+    by : (b : Bool) → are_kept_for cs [] ≡ are_rest_for cs []
+        → pointwise (λ c datum. is_value_for c.1 datum) (cond (not b) (c ∷ filter (λ c. not (is_own_column c.0)) cs) (filter (λ c. not (is_own_column c.0)) cs)) [] ≡ cond b (are_rest_for cs []) false
+    by true rest = rest
+    by false rest = refl
+rest_are_kept (c ∷ cs) (v ∷ vs) = by (is_own_column c.0) (rest_are_kept cs (v ∷ vs)) (rest_are_kept cs vs)
+  where
+    by : (b : Bool) → are_kept_for cs (v ∷ vs) ≡ are_rest_for cs (v ∷ vs) → are_kept_for cs vs ≡ are_rest_for cs vs
+        → pointwise (λ c datum. is_value_for c.1 datum) (cond (not b) (c ∷ filter (λ c. not (is_own_column c.0)) cs) (filter (λ c. not (is_own_column c.0)) cs)) (v ∷ vs) ≡ cond b (are_rest_for cs (v ∷ vs)) (is_value_for c.1 v && are_rest_for cs vs)
+    by true all others = all
+    by false all others = ap (λ b. is_value_for c.1 v && b) others
+
+pub are_values_in_turn : (table : Table) (vs : List Datum) → are_values_for table vs ≡ are_rest_for (entries table.columns) vs
+are_values_in_turn table vs = rest_are_kept (entries table.columns) vs
+
 -- ---- values for the columns suit the table
 
 -- what stands at a name among the columns, and what among the values
@@ -86,27 +118,27 @@ other_suits c cs v vs name own is_value rest = by (same_name name c.0) refl
     by false is = rest
     by true is = ap (λ b. suits_column (cond b None (Some c.1)) (Some v)) (ap is_own_column (same_name-is name c.0 is) ∙ own) ∙ is_value
 
-values_suit : (cs : List (List ℕ × Column)) (vs : List Datum) (name : List ℕ) → are_values_for cs vs ≡ true → Suits cs vs name
+values_suit : (cs : List (List ℕ × Column)) (vs : List Datum) (name : List ℕ) → are_rest_for cs vs ≡ true → Suits cs vs name
 values_suit [] [] name h = nothing_suits (is_own_column name)
 values_suit [] (v ∷ vs) name h = cc
 values_suit (c ∷ cs) [] name h = by (is_own_column c.0) (λ k. values_suit cs [] name k) refl h
   where
-    by : (b : Bool) → (are_values_for cs [] ≡ true → Suits cs [] name) → is_own_column c.0 ≡ b → cond b (are_values_for cs []) false ≡ true
+    by : (b : Bool) → (are_rest_for cs [] ≡ true → Suits cs [] name) → is_own_column c.0 ≡ b → cond b (are_rest_for cs []) false ≡ true
         → suits_column (cond (is_own_column name) None (cond (same_name name c.0) (Some c.1) (find name_cmp name cs)))
         (find name_cmp name (zip (cond (not b) (c.0 ∷ without_own (map (λ c. c.0) cs)) (without_own (map (λ c. c.0) cs))) [])) ≡ true
     by true rest own k = own_suits c cs [] name own (rest k)
     by false rest own k = cc
 values_suit (c ∷ cs) (v ∷ vs) name h = by (is_own_column c.0) (λ k. values_suit cs (v ∷ vs) name k) (λ k. values_suit cs vs name k) refl h
   where
-    by : (b : Bool) → (are_values_for cs (v ∷ vs) ≡ true → Suits cs (v ∷ vs) name) → (are_values_for cs vs ≡ true → Suits cs vs name) → is_own_column c.0 ≡ b → cond b (are_values_for cs (v ∷ vs)) (is_value_for c.1 v && are_values_for cs vs) ≡ true
+    by : (b : Bool) → (are_rest_for cs (v ∷ vs) ≡ true → Suits cs (v ∷ vs) name) → (are_rest_for cs vs ≡ true → Suits cs vs name) → is_own_column c.0 ≡ b → cond b (are_rest_for cs (v ∷ vs)) (is_value_for c.1 v && are_rest_for cs vs) ≡ true
         → suits_column (cond (is_own_column name) None (cond (same_name name c.0) (Some c.1) (find name_cmp name cs)))
         (find name_cmp name (zip (cond (not b) (c.0 ∷ without_own (map (λ c. c.0) cs)) (without_own (map (λ c. c.0) cs))) (v ∷ vs))) ≡ true
     by true all others own k = own_suits c cs (v ∷ vs) name own (all k)
     by false all others own k =
-        let parts = and_parts (is_value_for c.1 v) (are_values_for cs vs) k in
+        let parts = and_parts (is_value_for c.1 v) (are_rest_for cs vs) k in
         other_suits c cs v vs name own parts.0 (others parts.1)
 
-module _ (table : Table) (columns : Columns) (named : keys columns ≡ row_names table) (are : are_values_for (entries table.columns) (values columns) ≡ true) where
+module _ (table : Table) (columns : Columns) (named : keys columns ≡ row_names table) (are : are_values_for table (values columns) ≡ true) where
   listed : entries columns ≡ zip (row_names table) (values columns)
   listed = sym (zip-entries (entries columns)) ∙ ap (λ names. zip names (values columns)) named
 
@@ -114,7 +146,7 @@ module _ (table : Table) (columns : Columns) (named : keys columns ≡ row_names
   guessed_suit name =
       ap (λ c. suits_column (cond (is_own_column name) None c) (get columns name)) (get-entries table.columns name)
       ∙ ap (suits_column (cond (is_own_column name) None (find name_cmp name (entries table.columns)))) (get-entries columns name ∙ ap (find name_cmp name) listed)
-      ∙ values_suit (entries table.columns) (values columns) name are
+      ∙ values_suit (entries table.columns) (values columns) name (sym (are_values_in_turn table (values columns)) ∙ are)
 
   -- ---- the row that the line is
 

@@ -20,7 +20,7 @@ use Rattle.ov_specs.proofs.laws.ReadingBack.{reads-tree}
 use Rattle.ov_rows.specs.Body.{AreOfKinds}
 use Rattle.ov_specs.specs.wire.Message.{tree_of}
 use Rattle.ov_db.specs.Stored.{AreCellsRead, columns_stored, row_cells, row_of_table, row_stored, value_stored}
-use Rattle.ov_db.proofs.BodyRows.{row_of_table_is}
+use Rattle.ov_db.proofs.BodyRows.{added_by, columns_added, row_of_table_is}
 use Rattle.ov_db.proofs.CellMaps.{are_stored, get-cells_of}
 
 -- ---- one value
@@ -88,18 +88,18 @@ module _ (table : Table) (columns : Columns) (suits : SuitsTable table columns) 
       by false is = refl
 
   abbrev Stored : List (List ℕ × Column) → Columns → Type 0
-  Stored cs before = (after : Columns) × (columns_stored body cs before ≡ Some after) × Adds cs before after
+  Stored cs before = (after : Columns) × (added_by (tree_stored body) cs before ≡ Some after) × Adds cs before after
 
   one_stored : (c : List ℕ × Column) (cs : List (List ℕ × Column)) (before : Columns) → get table.columns c.0 ≡ Some c.1 → ((more : Columns) → Stored cs more) → Stored (c ∷ cs) before
   one_stored c cs before stands next = by (is_own_column c.0) refl
     where
       by : (b : Bool) → is_own_column c.0 ≡ b
-          → (after : Columns) × (cond b (columns_stored body cs before) (option_and_then (λ datum. columns_stored body cs (insert before c.0 datum)) (value_stored body c)) ≡ Some after) × Adds (c ∷ cs) before after
+          → (after : Columns) × (cond b (added_by (tree_stored body) cs before) (option_and_then (λ datum. added_by (tree_stored body) cs (insert before c.0 datum)) (value_stored body c)) ≡ Some after) × Adds (c ∷ cs) before after
       by true own = let rest = next before in (rest.0, rest.1, passed_over c cs before rest.0 own rest.2)
       by false own =
           let value = value_is_stored c.0 c.1 own stands in
           let rest = next (insert before c.0 value.0) in
-          (rest.0, ap (option_and_then (λ datum. columns_stored body cs (insert before c.0 datum))) value.2 ∙ rest.1, added c cs before rest.0 value.0 own value.1 rest.2)
+          (rest.0, ap (option_and_then (λ datum. added_by (tree_stored body) cs (insert before c.0 datum))) value.2 ∙ rest.1, added c cs before rest.0 value.0 own value.1 rest.2)
 
   stored : (cs : List (List ℕ × Column)) (before : Columns) → EachEntry (λ name column. get table.columns name ≡ Some column) cs → Stored cs before
   stored [] before stand = (before, refl, λ name. others name (is_own_column name))
@@ -115,10 +115,10 @@ module _ (table : Table) (columns : Columns) (suits : SuitsTable table columns) 
   nothing_else (Some column) d h e = cc
 
   -- the columns that the body gives are the row's
-  pub columns_are_stored : columns_stored body (entries table.columns) empty ≡ Some columns
+  pub columns_are_stored : columns_stored body table ≡ Some columns
   columns_are_stored =
       let all = stored (entries table.columns) empty (each_entry table.columns) in
-      all.1 ∙ ap Some (same_map name_cmp_total name_exact all.0 columns (λ name.
+      columns_added (tree_stored body) table ∙ all.1 ∙ ap Some (same_map name_cmp_total name_exact all.0 columns (λ name.
       all.2 name ∙ ap (λ o. cond (not (is_own_column name) && is_some o) (get columns name) (get (empty {K = List ℕ} {X = Datum} {R = name_cmp}) name)) (sym (get-entries table.columns name))
       ∙ ap (cond (not (is_own_column name) && is_some (get table.columns name)) (get columns name)) (get-empty name_cmp name)
       ∙ by name (is_own_column name) (get table.columns name) refl refl))

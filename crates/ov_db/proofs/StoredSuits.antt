@@ -1,5 +1,5 @@
 -- The row that a body is, is a row of the schema.
-use Rattle.std.proofs.Common.{◌≡◌, ℕ, List, [], ◌∷◌, Bool, true, false, cond, ◌||◌, Option, Some, None, option_and_then, refl, ap, subst, ◌∙◌}
+use Rattle.std.proofs.Common.{◌≡◌, ℕ, List, [], ◌∷◌, Bool, true, false, cond, ◌||◌, Option, Some, None, option_and_then, refl, sym, ap, subst, ◌∙◌}
 use Rattle.std.specs.Prelude.{Ok}
 use Rattle.std.proofs.lemmas.Bool.{and_from}
 use Rattle.std.proofs.lemmas.Option.{same_Some}
@@ -19,7 +19,7 @@ use Rattle.ov_specs.proofs.laws.Names.{each_entry}
 use Rattle.ov_specs.proofs.laws.OfKinds.{reads_is_of}
 use Rattle.ov_specs.proofs.laws.SuitingColumns.{no_uuids, IsGiven, column_is, SuitsSoFar, none_suits, one_more_suits, Completes, passed, added, StandIn, complete_suits}
 use Rattle.ov_db.specs.Stored.{RowBody, columns_stored, row_of_table, row_stored, value_stored}
-use Rattle.ov_db.proofs.BodyRows.{row_of_table_is}
+use Rattle.ov_db.proofs.BodyRows.{added_by, columns_added, row_of_table_is}
 
 -- ---- one value
 
@@ -42,28 +42,28 @@ stored_value_suits body c datum h = by_member (tree_stored body c.0) h
 -- ---- all columns
 
 module _ (table : Table) (body : Body) where
-  one_column : (c : List ℕ × Column) (cs : List (List ℕ × Column)) (before after : Columns) → get table.columns c.0 ≡ Some c.1 → SuitsSoFar table before → columns_stored body (c ∷ cs) before ≡ Some after
-      → ((more : Columns) → SuitsSoFar table more → columns_stored body cs more ≡ Some after → Completes table cs more after) → Completes table (c ∷ cs) before after
+  one_column : (c : List ℕ × Column) (cs : List (List ℕ × Column)) (before after : Columns) → get table.columns c.0 ≡ Some c.1 → SuitsSoFar table before → added_by (tree_stored body) (c ∷ cs) before ≡ Some after
+      → ((more : Columns) → SuitsSoFar table more → added_by (tree_stored body) cs more ≡ Some after → Completes table cs more after) → Completes table (c ∷ cs) before after
   one_column c cs before after stands suits h next = by (is_own_column c.0) refl h
     where
-      by_value : (o : Option Datum) → is_own_column c.0 ≡ false → value_stored body c ≡ o → option_and_then (λ datum. columns_stored body cs (insert before c.0 datum)) o ≡ Some after → Completes table (c ∷ cs) before after
+      by_value : (o : Option Datum) → is_own_column c.0 ≡ false → value_stored body c ≡ o → option_and_then (λ datum. added_by (tree_stored body) cs (insert before c.0 datum)) o ≡ Some after → Completes table (c ∷ cs) before after
       by_value None own is k = cc
       by_value (Some datum) own is k =
           let given : IsGiven table c.0 datum = (c.1, column_is table c.0 c.1 own stands, stored_value_suits body c datum is) in
           added table c cs before datum (Ok after) (next (insert before c.0 datum) (one_more_suits table before c.0 datum given suits) k)
 
-      by : (b : Bool) → is_own_column c.0 ≡ b → cond b (columns_stored body cs before) (option_and_then (λ datum. columns_stored body cs (insert before c.0 datum)) (value_stored body c)) ≡ Some after
+      by : (b : Bool) → is_own_column c.0 ≡ b → cond b (added_by (tree_stored body) cs before) (option_and_then (λ datum. added_by (tree_stored body) cs (insert before c.0 datum)) (value_stored body c)) ≡ Some after
           → Completes table (c ∷ cs) before after
       by true own k = passed table c cs before (Ok after) (ap (λ b. b || contains_key before c.0) own) (next before suits k)
       by false own k = by_value (value_stored body c) own refl k
 
-  columns_complete : (cs : List (List ℕ × Column)) (before after : Columns) → StandIn table cs → SuitsSoFar table before → columns_stored body cs before ≡ Some after → Completes table cs before after
+  columns_complete : (cs : List (List ℕ × Column)) (before after : Columns) → StandIn table cs → SuitsSoFar table before → added_by (tree_stored body) cs before ≡ Some after → Completes table cs before after
   columns_complete [] before after stand suits h =
       subst (λ (columns : Columns). Completes table [] before columns) (same_Some before after h) (record { suits = suits; stays = λ name there. there; has = λ name column own found. cc })
   columns_complete (c ∷ cs) before after stand suits h = one_column c cs before after stand.0 suits h (λ more suits' k. columns_complete cs more after stand.1 suits' k)
 
-  pub stored_columns_suit : (columns : Columns) → columns_stored body (entries table.columns) empty ≡ Some columns → SuitsTable table columns
-  stored_columns_suit columns h = complete_suits table empty columns (columns_complete (entries table.columns) empty columns (each_entry table.columns) (none_suits table) h)
+  pub stored_columns_suit : (columns : Columns) → columns_stored body table ≡ Some columns → SuitsTable table columns
+  stored_columns_suit columns h = complete_suits table empty columns (columns_complete (entries table.columns) empty columns (each_entry table.columns) (none_suits table) (sym (columns_added (tree_stored body) table) ∙ h))
 
 -- ---- a row
 
@@ -72,7 +72,7 @@ abbrev IsOfTable : Table → RowBody → Row → Type 0
 IsOfTable table stored row = (row.version ≡ stored.0) × SuitsTable table row.columns
 
 row_of_table_suits : (table : Table) (stored : RowBody) (row : Row) → row_of_table table stored ≡ Some row → IsOfTable table stored row
-row_of_table_suits table stored row h = by_columns (columns_stored stored.1 (entries table.columns) empty) refl h
+row_of_table_suits table stored row h = by_columns (columns_stored stored.1 table) refl h
   where
     by_test : (columns : Columns) (b : Bool) → SuitsTable table columns → cond b (Some (record { version = stored.0; columns = columns })) None ≡ Some row → IsOfTable table stored row
     by_test columns true suits k =
@@ -80,7 +80,7 @@ row_of_table_suits table stored row h = by_columns (columns_stored stored.1 (ent
         subst (IsOfTable table stored) same (refl, suits)
     by_test columns false suits k = cc
 
-    by_columns : (o : Option Columns) → columns_stored stored.1 (entries table.columns) empty ≡ o → option_and_then (row_if_stored stored.0 stored.1) o ≡ Some row → IsOfTable table stored row
+    by_columns : (o : Option Columns) → columns_stored stored.1 table ≡ o → option_and_then (row_if_stored stored.0 stored.1) o ≡ Some row → IsOfTable table stored row
     by_columns None is k = cc
     by_columns (Some columns) is k = by_test columns (is_stored_as columns stored.1) (stored_columns_suit table stored.1 columns is) k
 

@@ -1,13 +1,13 @@
 -- The row that is stored under a key, and which rows read back from their cells.
-use Rattle.std.specs.Prelude.{◌≡◌, ℕ, List, [], ◌∷◌, true, if◌then◌else◌, Option, Some, None, option_and_then}
-use Rattle.std.specs.FinMap.{empty, get, insert, entries}
+use Rattle.std.specs.Prelude.{◌≡◌, ℕ, List, [], ◌∷◌, true, Option, Some, None, option_map, option_and_then}
+use Rattle.std.specs.FinMap.{get, from_entries}
 use Rattle.serde_json.specs.Data.{Data}
 use Rattle.serde_json.specs.Find as find
 use Rattle.ov_specs.specs.rows.Cells.{cell_body, cells_of}
 use Rattle.ov_specs.specs.rows.Database.{Columns, Row, Database}
-use Rattle.ov_specs.specs.rows.Held.{Body, OfCells, if_fits, row_if_stored, row_of_body, tree_stored}
+use Rattle.ov_specs.specs.rows.Held.{Body, OfCells, all_results, if_fits, row_if_stored, row_of_body, tree_stored}
 use Rattle.ov_specs.specs.rows.Lines.{LineKey}
-use Rattle.ov_specs.specs.rows.RowNames.{is_own_column}
+use Rattle.ov_specs.specs.rows.RowNames.{row_columns}
 use Rattle.ov_specs.specs.rows.Suits.{Suits}
 use Rattle.ov_specs.specs.schema.SchemaTypes.{Column, Table, Schema, kinds_of}
 use Rattle.ov_specs.specs.values.Reading.{reads}
@@ -67,21 +67,22 @@ value_from found column = option_and_then (λ d. if_fits column (reads no_names 
 abbrev pub value_stored : Body → List ℕ × Column → Option Datum
 value_stored body c = value_from (tree_stored body c.0) c.1
 
--- these columns added to those before, each with the value of its tree, but for the columns that every row has by itself
-abbrev pub columns_by : (List ℕ → Option Data) → List (List ℕ × Column) → Columns → Option Columns
-columns_by tree_at [] columns = Some columns
-columns_by tree_at (c ∷ cs) columns =
-    if is_own_column c.0 then columns_by tree_at cs columns
-    else option_and_then (λ datum. columns_by tree_at cs (insert columns c.0 datum)) (value_from (tree_at c.0) c.1)
+-- the value of the tree of a column's name, with the name
+abbrev pub value_by : (List ℕ → Option Data) → List ℕ × Column → Option (List ℕ × Datum)
+value_by tree_at c = option_map (λ datum. (c.0, datum)) (value_from (tree_at c.0) c.1)
 
--- the same, each with its stored value
-abbrev pub columns_stored : Body → List (List ℕ × Column) → Columns → Option Columns
-columns_stored body cs columns = columns_by (tree_stored body) cs columns
+-- the columns that each row of the table has, with the values of their trees, if all have one
+abbrev pub columns_by : (List ℕ → Option Data) → Table → Option Columns
+columns_by tree_at table = option_map from_entries (all_results (value_by tree_at) (row_columns table))
+
+-- the same, with their stored values
+abbrev pub columns_stored : Body → Table → Option Columns
+columns_stored body table = columns_by (tree_stored body) table
 
 -- the members of a tree, if there is one
 abbrev pub trees_in : Option Data → List ℕ → Option Data
 trees_in body name = option_and_then (find.get name) body
 
--- the row of a table that is stored as this: `row_of_body`, with the columns added one by one
+-- the row of a table that is stored as this, as in `row_of_body`
 abbrev pub row_of_table : Table → RowBody → Option Row
-row_of_table table stored = option_and_then (row_if_stored stored.0 stored.1) (columns_stored stored.1 (entries table.columns) empty)
+row_of_table table stored = option_and_then (row_if_stored stored.0 stored.1) (columns_stored stored.1 table)

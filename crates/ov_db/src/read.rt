@@ -1,5 +1,4 @@
 ghost use Rattle.std.specs.Prelude.{◌≡◌, IfOk, IfErr, Some, option_map};
-ghost use Rattle.std.specs.FinMap.{empty, entries};
 ghost use Rattle.serde_json.specs.View.{view};
 ghost use Rattle.ov_specs.specs.rows.Held.{OneText};
 ghost use Rattle.ov_specs.specs.rows.Suits.{is_value_for};
@@ -13,7 +12,6 @@ ghost use Rattle.ov_db.specs.declared.fault.OpenFault.TheVariants.{Keeping};
 
 use crate::fault::OpenFault;
 use ov_atoms::{AtomFault, Datum, NoNames, read_datum};
-use ov_base::Text;
 use ov_keeper::{KeepFault, Line};
 use ov_rows::{BodyReader, Columns, NamedValues, Row, ValueIter};
 use ov_schema::{Column, Schema, Table, is_own};
@@ -73,7 +71,7 @@ fn row_by_guess(
     ensures { IfOk result (λ row. row_of_table table.now (whole_entry line.now).1 ≡ Some row) }
 {
     let columns = reader.columns(alloc, table.names_of_row(), line.body.as_slice())?;
-    if !are_values_for(table.columns(), columns.values()) {
+    if !are_values_for(table, columns.values()) {
         return Err(AtomFault::Syntax);
     }
     Ok(Row {
@@ -82,12 +80,13 @@ fn row_by_guess(
     })
 }
 
-/// Whether these are values for the columns except those that every row has by itself, one for each and in their order.
-pub(crate) fn are_values_for(columns: &[(Text, Column)], values: ValueIter<'_>) -> bool
-    ensures { result ≡ are_values_for columns.now values.entry }
+/// Whether these are values for the table's columns except those that every row has by itself, one for each and in their
+/// order.
+pub(crate) fn are_values_for(table: &Table, values: ValueIter<'_>) -> bool
+    ensures { result ≡ are_values_for table.now values.entry }
 {
     let mut rest = values;
-    for (name, column) in columns {
+    for (name, column) in table.columns() {
         if !is_own(name.as_str()) {
             let Some(datum) = rest.next() else {
                 return false;
@@ -127,7 +126,7 @@ fn row_in_full(alloc: Global, table: &Table, line: &Line) -> Result<Row, OpenFau
 /// All columns of the table except those that every row has by itself, each with its value from the text.
 fn columns_of(alloc: Global, table: &Table, text: &[u8]) -> Result<Columns, OpenFault>
     ensures { IsLoaded (λ columns. columns) (columns_stored (OneText text.now)
-        (entries table.now.columns) empty) result }
+        table.now) result }
 {
     let body = tree_of(alloc, text)?;
     let values = values_of(alloc, table, &body)?;
@@ -137,7 +136,7 @@ fn columns_of(alloc: Global, table: &Table, text: &[u8]) -> Result<Columns, Open
 /// The values that the body has for all columns of the table except those that every row has by itself.
 fn values_of(alloc: Global, table: &Table, body: &Option<Value>) -> Result<NamedValues, OpenFault>
     ensures { IsLoaded (λ values. values) (columns_by (trees_in (option_map view body.now))
-        (entries table.now.columns) empty) result }
+        table.now) result }
 {
     let mut values = NamedValues::new(alloc);
     for (name, column) in table.columns() {

@@ -1,5 +1,5 @@
 ghost use Rattle.std.specs.Prelude.{◌≡◌, IfOk, Some};
-ghost use Rattle.std.specs.FinMap.{empty, entries, keys};
+ghost use Rattle.std.specs.FinMap.{keys};
 ghost use Rattle.ov_rows.specs.Named.{DoAscend};
 ghost use Rattle.ov_specs.specs.rows.Cells.{cells_of};
 ghost use Rattle.ov_specs.specs.rows.Held.{OfCells};
@@ -65,7 +65,7 @@ fn cells_by_guess(
     ensures { IfOk result (λ row. row_of_table table.now (cells_entry line.now).1 ≡ Some row) }
 {
     let columns = guessed_columns(alloc, reader, table.names_of_row(), line.cells.as_slice())?;
-    if !are_values_for(table.columns(), columns.values()) {
+    if !are_values_for(table, columns.values()) {
         return Err(AtomFault::Syntax);
     }
     Ok(Row {
@@ -133,7 +133,7 @@ fn cells_in_full(alloc: Global, table: &Table, line: &CellLine) -> Result<Row, O
 /// All columns of the table except those that every row has by itself, each with the value of its cell.
 fn columns_in_cells(alloc: Global, table: &Table, cells: &[Cell]) -> Result<Columns, OpenFault>
     ensures { IsLoaded (λ columns. columns) (columns_stored (OfCells (cells_view cells.now))
-        (entries table.now.columns) empty) result }
+        table.now) result }
 {
     let values = values_in_cells(alloc, table, cells)?;
     Ok(Columns::of(alloc, table.names_of_row(), values)?)
@@ -142,7 +142,7 @@ fn columns_in_cells(alloc: Global, table: &Table, cells: &[Cell]) -> Result<Colu
 /// The values of the cells of all columns of the table except those that every row has by itself.
 fn values_in_cells(alloc: Global, table: &Table, cells: &[Cell]) -> Result<NamedValues, OpenFault>
     ensures { IsLoaded (λ values. values) (columns_stored (OfCells (cells_view cells.now))
-        (entries table.now.columns) empty) result }
+        table.now) result }
 {
     let mut values = NamedValues::new(alloc);
     for (name, column) in table.columns() {

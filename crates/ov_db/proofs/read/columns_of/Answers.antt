@@ -1,6 +1,5 @@
 use Rattle.std.proofs.Common.{◌≡◌, Option, Some, sym, ap, subst, ◌∙◌}
 use Rattle.std.proofs.lemmas.Result.{err_from_is_err_and}
-use Rattle.std.specs.FinMap.{empty, entries}
 use Rattle.serde_json.specs.Data.{Data}
 use Rattle.ov_specs.specs.rows.Held.{OneText}
 use Rattle.ov_specs.proofs.laws.RowNames.{names_of_suiting}
@@ -13,20 +12,20 @@ pub returns-in_err-values : goal.returns-in_err-values
 returns-in_err-values c =
     let table = c.args.table.now in
     let p = err_from_is_err_and c.from_residual-in_err-values.result c.from_residual-in_err-values.ensures.1 in
-    rw (p.1, p.2) (subst (λ (o : Option Data). IsNotLoaded (columns_by (trees_in o) (entries table.columns) empty) c.in_err-values.field-0.0) c.in_ok-body.ensures.ok c.in_err-values.ensures)
+    rw (p.1, p.2) (subst (λ (o : Option Data). IsNotLoaded (columns_by (trees_in o) table) c.in_err-values.field-0.0) c.in_ok-body.ensures.ok c.in_err-values.ensures)
 
 pub of-requires : goal.of-requires
 of-requires c =
     let table = c.args.table.now in
     let values = c.in_ok-values.values in
-    let stored : columns_stored (OneText c.args.text.now) (entries table.columns) empty ≡ Some values =
-    subst (λ (o : Option Data). columns_by (trees_in o) (entries table.columns) empty ≡ Some values) c.in_ok-body.ensures.ok c.in_ok-values.ensures in
+    let stored : columns_stored (OneText c.args.text.now) table ≡ Some values =
+    subst (λ (o : Option Data). columns_by (trees_in o) table ≡ Some values) c.in_ok-body.ensures.ok c.in_ok-values.ensures in
     names_of_suiting table values (stored_columns_suit table (OneText c.args.text.now) values stored) ∙ sym c.names_of_row.ensures
 
 pub returns : goal.returns
 returns c =
     let table = c.args.table.now in
     let values = c.in_ok-values.values in
-    let stored : columns_stored (OneText c.args.text.now) (entries table.columns) empty ≡ Some values =
-    subst (λ (o : Option Data). columns_by (trees_in o) (entries table.columns) empty ≡ Some values) c.in_ok-body.ensures.ok c.in_ok-values.ensures in
+    let stored : columns_stored (OneText c.args.text.now) table ≡ Some values =
+    subst (λ (o : Option Data). columns_by (trees_in o) table ≡ Some values) c.in_ok-body.ensures.ok c.in_ok-values.ensures in
     stored ∙ ap Some (sym c.in_ok-of.ensures)

@@ -1,5 +1,5 @@
 use Rattle.std.proofs.Common.{rules, ◌≡◌, true, sym, ap, subst, ◌∙◌}
-use Rattle.std.specs.FinMap.{entries, values}
+use Rattle.std.specs.FinMap.{values}
 use Rattle.ov_keeper.specs.Views.{cells_view}
 use Rattle.ov_rows.specs.Named.{DoAscend}
 use Rattle.ov_db.specs.Guessed.{are_values_for}
@@ -13,7 +13,7 @@ pub returns : goal.returns
 returns c =
     let table = c.args.table.now in
     let columns = c.in_ok-columns.columns in
-    let are : are_values_for (entries table.columns) (values columns) ≡ true = search rules in
+    let are : are_values_for table (values columns) ≡ true = search rules in
     let cells = c.args.line.now.cells.items in
     let same : cells_view cells ≡ cells_view c.as_slice.result.now = sym (ap (λ cs. cells_view cs) c.as_slice.ensures.value) in
     guessed_cells table columns (c.in_ok-columns.ensures.names ∙ c.names_of_row.ensures) are c.args.line.now.version (cells_view cells) (same ∙ c.in_ok-columns.ensures.cells) c.in_ok-columns.ensures.read
