@@ -24,7 +24,7 @@ FRAMES = (1_000, 4_096, 16_384)
 
 # What files are filled with, and what the store has: its largest cache, and its log.
 WIDE = (65_536, 65_536)
-OURS = (16_384, 1_000)
+OURS = (4_096, 1_000)
 
 # A start is repeated so often, but not after so many seconds of it.
 STARTS = 3

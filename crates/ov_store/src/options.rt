@@ -14,9 +14,9 @@ const PAGE: u64 = 4_096;
 /// The fewest pages that stay in memory: 8 MiB, since a small file may grow. It is the kit's own number.
 const LEAST_PAGES: u64 = 2_000;
 
-/// The most pages that stay in memory: 64 MiB, the pages of some 155,000 rows. An opening takes the memory for all at once, so
-/// a fixed number as large as this would be spent on every file.
-const MOST_PAGES: u64 = 16_384;
+/// The most pages that stay in memory: 16 MiB. More would make a start over 400,000 rows a tenth faster, since the system has the
+/// file in its own cache. An opening takes the memory for all pages at once, and keeps it.
+const MOST_PAGES: u64 = 4_096;
 
 /// How many pages a transaction writes before the first of them go to the log. It is the kit's own number.
 const SPILL_PAGES: usize = 2_000;
