@@ -30,8 +30,8 @@ pub(crate) fn has_text(alloc: Global, schema: &Schema, loaded: &Loaded) -> Resul
     Ok(loaded.schema.as_str().as_bytes() == text.as_slice())
 }
 
-/// The rows that were loaded. If two of them have the same key, the first counts. Those of format 2 read back. Each line is
-/// dropped once its row is made, so the two are not in memory together.
+/// The rows that were loaded. If two of them have the same key, the first counts. Those of format 2 read back. What a line
+/// holds is dropped once its row is made, so the memory of lines and rows is not needed for all at once.
 pub(crate) fn rows_of(alloc: Global, schema: &Schema, lines: Lines) -> Result<Rows, OpenFault>
     ensures loaded { IsLoaded (λ rows. rows) (held schema.now (lines_view lines)) result }
     ensures suits { IfOk result (Suits schema.now) }

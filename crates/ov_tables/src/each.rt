@@ -61,6 +61,6 @@ pub fn each_cell<S: Alter, T: TakesRows>(
             return Ok(false);
         }
     }
-    // No table has so many rows.
+    // Row numbers have 64 bits, so a table ends before.
     Err(Error::InvalidQuery)
 }
