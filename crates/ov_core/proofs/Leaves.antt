@@ -2,7 +2,7 @@
 use Rattle.std.proofs.Common.{◌≡◌, ℕ, List, [], ◌∷◌, Bool, true, false, cond, eqb, Option, Some, None, refl, sym, ap, ◌∙◌, map}
 use Rattle.std.specs.Prelude.{not}
 use Rattle.std.proofs.lemmas.Option.{same_Some}
-use Rattle.ov_specs.specs.locks.Queues.{Queues, first_of, without, next_in, freed_before, freed, locked_notification, told_of_leaving}
+use Rattle.ov_specs.specs.locks.Queues.{Queues, queue_of, first_of, names_of, without, next_in, unlock, next_owner, freed_before, freed_all, locked_notification, told_of_leaving}
 use Rattle.ov_specs.specs.machine.Machine.{told}
 use Rattle.ov_specs.specs.machine.History.{frames_to}
 
@@ -25,11 +25,17 @@ next_is_other session next (first ∷ queue) is = by (eqb first session) is
     by false h = cc
 
 -- so its own session is not notified
-pub leaving_silent : (session : ℕ) (queues : Queues) → frames_to session (told (told_of_leaving session queues)) ≡ []
-leaving_silent session [] = refl
-leaving_silent session (e ∷ queues) = by (next_in session e.1) refl (leaving_silent session queues)
+freed_silent : (session : ℕ) (names : List (List ℕ)) (queues : Queues) → frames_to session (told (map (λ f. (f.0, locked_notification f.1)) (freed_all session names queues))) ≡ []
+freed_silent session [] queues = refl
+freed_silent session (name ∷ names) queues = by (next_owner name session queues) refl (freed_silent session names (unlock name session queues))
   where
-    by : (next : Option ℕ) → next_in session e.1 ≡ next → frames_to session (told (told_of_leaving session queues)) ≡ []
-        → frames_to session (told (map (λ f. (f.0, locked_notification f.1)) (freed_before next e.0 (freed session queues)))) ≡ []
+    later : List (ℕ × List ℕ)
+    later = freed_all session names (unlock name session queues)
+
+    by : (next : Option ℕ) → next_owner name session queues ≡ next → frames_to session (told (map (λ f. (f.0, locked_notification f.1)) later)) ≡ []
+        → frames_to session (told (map (λ f. (f.0, locked_notification f.1)) (freed_before next name later))) ≡ []
     by None is rest = rest
-    by (Some next) is rest = rw (next_is_other session next e.1 is) rest
+    by (Some next) is rest = rw (next_is_other session next (queue_of name queues) is) rest
+
+pub leaving_silent : (session : ℕ) (queues : Queues) → frames_to session (told (told_of_leaving session queues)) ≡ []
+leaving_silent session queues = freed_silent session (names_of session queues) queues

@@ -1,4 +1,3 @@
-mod Leaving
 pub mod Named
 pub mod HeldNames
 pub mod Sessions

@@ -9,17 +9,16 @@ use Rattle.std.specs.List.Sorted.{IsStrictlySortedBy}
 use Rattle.std.specs.Ordering.{is_eq, match_ordering}
 use Rattle.std.specs.Prelude.{Ok, Err, option_to_list}
 use Rattle.std.specs.Set.{remove_key}
-use Rattle.ov_specs.specs.locks.Queues.{Queues, queue_of, has_requested, names_of, lock, steal, without, unlock, next_owner, leave, freed, freed_before}
+use Rattle.ov_specs.specs.locks.Queues.{Queues, queue_of, has_requested, names_of, lock, steal, without, unlock, next_owner, unlock_all, freed_before, freed_all, leave}
 use Rattle.ov_specs.specs.schema.SchemaTypes.{name_cmp}
 use Rattle.ov_specs.proofs.laws.LockQueues.{DoQueuesAscend, with_queue-ascends, leave-ascends, names-lock, names-steal, names-unlock, names-leave, requested-names, remove-insert}
 use Rattle.ov_specs.proofs.laws.Names.{same_name-itself}
 use Rattle.ov_specs.proofs.laws.Truths.{or_truth}
-use Rattle.ov_locks.specs.Freeing.{told, told_all, unlock_all, freed_all}
+use Rattle.ov_locks.specs.Freeing.{told, told_all}
 use Rattle.ov_locks.specs.Held.{HeldNames, names_in}
 use Rattle.ov_locks.specs.Refusing.{refusal_for, request_refusal, RefusesFor}
 use Rattle.ov_locks.specs.declared.fault.LockFault.{LockFault}
 use Rattle.ov_locks.specs.declared.fault.LockFault.TheVariants.{AlreadyRequested, Memory}
-use Rattle.ov_locks.proofs.Leaving.{unlock_all-leave, freed_all-leave}
 
 -- what contracts see of a table
 abbrev pub TableValue : Type 0
@@ -91,15 +90,8 @@ pub leaves-table : (session : ℕ) (queues : Queues) (held new : HeldNames) (aft
     → ((other : ℕ) → names_in other new ≡ cond (eqb other session) [] (names_in other held)) → after ≡ leave session queues → DoQueuesAscend after × AreNamesOf new after
 leaves-table session queues held new after ascend are gone is = (
   subst DoQueuesAscend (sym is) (leave-ascends session queues ascend),
-  λ other. gone other ∙ ap (cond (eqb other session) []) (are other) ∙ sym (names-leave other session queues) ∙ ap (names_of other) (sym is),
+  λ other. gone other ∙ ap (cond (eqb other session) []) (are other) ∙ sym (names-leave other session queues ascend) ∙ ap (names_of other) (sym is),
 )
-
-module _ (session : ℕ) (queues : Queues) (names : List (List ℕ)) (ascend : DoQueuesAscend queues) (is : names ≡ names_of session queues) where
-  pub left-queues : unlock_all session names queues ≡ leave session queues
-  left-queues = ap (λ ns. unlock_all session ns queues) is ∙ unlock_all-leave session queues ascend
-
-  pub left-freed : told_all (freed_all session names queues) ≡ told_all (freed session queues)
-  left-freed = ap (λ ns. told_all (freed_all session ns queues)) is ∙ ap told_all (freed_all-leave session queues ascend)
 
 any-insert : (name : List ℕ) (names : List (List ℕ)) → list_any (is_at (name_cmp name)) (insert_key name_cmp names name) ≡ true
 any-insert name [] = ap (λ b. b || false) (same_name-itself name)

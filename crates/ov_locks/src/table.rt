@@ -6,11 +6,11 @@ ghost use Rattle.std.specs.BTreeSet.{insert_key};
 ghost use Rattle.std.specs.List.{list_any};
 ghost use Rattle.std.specs.Set.{remove_key};
 ghost use Rattle.ov_specs.specs.locks.Queues.{owner, has_requested, lock, steal, unlock};
-ghost use Rattle.ov_specs.specs.locks.Queues.{next_owner, leave, freed, stolen_notification};
-ghost use Rattle.ov_specs.specs.locks.Queues.{requests_of, DoQueuesAscend};
+ghost use Rattle.ov_specs.specs.locks.Queues.{next_owner, unlock_all, freed_all, leave, freed};
+ghost use Rattle.ov_specs.specs.locks.Queues.{stolen_notification, requests_of, DoQueuesAscend};
 ghost use Rattle.ov_specs.specs.schema.SchemaTypes.{name_cmp};
 ghost use Rattle.ov_specs.specs.wire.Frame.{frame};
-ghost use Rattle.ov_locks.specs.Freeing.{told, told_all, unlock_all, freed_all};
+ghost use Rattle.ov_locks.specs.Freeing.{told, told_all};
 ghost use Rattle.ov_locks.specs.Held.{names_in, names_of_set, requests_in};
 ghost use Rattle.ov_locks.specs.Refusing.{refusal_for, request_refusal, RefusesFor};
 

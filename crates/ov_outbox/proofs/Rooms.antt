@@ -168,11 +168,11 @@ told_all-posted : (freed : List (ℕ × List ℕ)) → freeing.told_all freed �
 told_all-posted [] = refl
 told_all-posted (p ∷ freed) = ap (λ ps. (p.0, frame (locked_notification p.1)) ∷ ps) (told_all-posted freed)
 
-module _ (s : ℕ) (queues : Queues) (first : WaitingFrames) (room : HasRoom first queues) where
+module _ (s : ℕ) (queues : Queues) (ascend : DoQueuesAscend queues) (first : WaitingFrames) (room : HasRoom first queues) where
   pub freed-places : HavePlaces (freeing.told_all (freed s queues)) first
   freed-places other =
       let has = room other in
-      let less = waits-leave other s queues in
+      let less = waits-leave other s queues ascend in
       let count = count_of-told other (freed s queues) in
       omega arith
 
@@ -182,11 +182,11 @@ module _ (s : ℕ) (queues : Queues) (first : WaitingFrames) (room : HasRoom fir
         given_up-room s (leave s queues) mid end
         (λ other.
         let has = room other in
-        let less = waits-leave other s queues in
+        let less = waits-leave other s queues ascend in
         let count = count_of-told other (freed s queues) in
         let taken = takes other in
         omega arith)
-        (leaver-waits s queues) gives
+        (leaver-waits s queues ascend) gives
 
 pub leaving-posts : (s : ℕ) (queues : Queues) (first mid end : WaitingFrames) → PostsAll (freeing.told_all (freed s queues)) first mid → HasSameFrames mid end → PostsSent (told (told_of_leaving s queues)) first end
 leaving-posts s queues first mid end all same =

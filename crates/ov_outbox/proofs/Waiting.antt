@@ -5,14 +5,14 @@ use Rattle.std.specs.BTreeMap.{is_at, insert_entry}
 use Rattle.std.specs.List.{count_by, list_any}
 use Rattle.std.specs.Map.{keys_of, lookup, remove_entry}
 use Rattle.std.specs.Ordering.{is_eq, match_ordering}
-use Rattle.std.proofs.lemmas.Bool.{or_parts}
+use Rattle.std.proofs.lemmas.Bool.{or_parts, eq-eqb}
 use Rattle.std.proofs.lemmas.List.Sums.{sum_by-cons, sum_by_push}
 use Rattle.std.proofs.lemmas.Map.{lookup-none}
 use Rattle.std.proofs.lemmas.Map.Entries.{none_below_head}
 use Rattle.std.proofs.lemmas.Map.Keys.{sorted_tail}
-use Rattle.ov_specs.specs.locks.Queues.{Queues, DoQueuesAscend, queue_of, first_of, owner, stands_in, has_requested, names_of, requests_of, with_queue, lock, steal, without, unlock, next_in, next_owner, queue_before, leave, freed_before, freed}
+use Rattle.ov_specs.specs.locks.Queues.{Queues, DoQueuesAscend, queue_of, first_of, owner, stands_in, has_requested, names_of, requests_of, with_queue, lock, steal, without, unlock, next_in, next_owner, unlock_all, freed_before, freed_all, leave, freed}
 use Rattle.ov_specs.specs.schema.SchemaTypes.{name_cmp}
-use Rattle.ov_specs.proofs.laws.LockQueues.{requested-names}
+use Rattle.ov_specs.proofs.laws.LockQueues.{requested-names, unlock-ascends, names-leave}
 use Rattle.ov_specs.proofs.laws.Names.{name_cmp_total, same_name-itself}
 use Rattle.ov_outbox.specs.Frames.{count_of}
 use Rattle.ov_outbox.specs.Waits.{waits_in, waits_of, IsOutOfQueues}
@@ -108,10 +108,6 @@ waits-none s queue out = let all = first_and_rest s queue in let none = times-no
 pub waits-some : (s : ℕ) (queue : List ℕ) → stands_in s queue ≡ true → one_for s (first_of queue) ≡ 0 → 1 ≤ waits_in s queue
 waits-some s queue stands apart = let all = first_and_rest s queue in let some = times-some s queue stands in omega arith
 
-next-none : (s : ℕ) (queue : List ℕ) → stands_in s queue ≡ false → next_in s queue ≡ None
-next-none s [] out = refl
-next-none s (f ∷ queue) out = ap (λ b. cond b (first_of (without s queue)) None) (or_parts (eqb f s) (stands_in s queue) out).0
-
 -- nobody becomes the first if a session that is not the first leaves
 pub next-not_first : (s : ℕ) (queue : List ℕ) → one_for s (first_of queue) ≡ 0 → next_in s queue ≡ None
 next-not_first s [] apart = refl
@@ -181,41 +177,20 @@ waiter-unlocks name s queues ascend stands apart =
 
 -- ---- leaving
 
-waits-before : (other : ℕ) (name queue : List ℕ) (queues : Queues) → waits_of other (queue_before name queue queues) ≡ waits_in other queue + waits_of other queues
-waits-before other name [] queues = omega arith
-waits-before other name (f ∷ queue) queues = refl
-
 count-before : (other : ℕ) (o : Option ℕ) (name : List ℕ) (others : List (ℕ × List ℕ)) → count_of other (freed_before o name others) ≡ one_for other o + count_of other others
 count-before other None name others = omega arith
 count-before other (Some s) name others = sum_by-cons _ (s, name) others
 
-pub waits-leave : (other s : ℕ) (queues : Queues) → waits_of other (leave s queues) + count_of other (freed s queues) ≤ waits_of other queues
-waits-leave other s [] = omega arith
-waits-leave other s (e ∷ queues) = by (waits-leave other s queues) (stands_in s e.1) refl
-  where
-    by : waits_of other (leave s queues) + count_of other (freed s queues) ≤ waits_of other queues → (b : Bool) → stands_in s e.1 ≡ b
-        → waits_of other (cond b (queue_before e.0 (without s e.1) (leave s queues)) (e ∷ leave s queues)) + count_of other (freed_before (next_in s e.1) e.0 (freed s queues))
-        ≤ waits_in other e.1 + waits_of other queues
-    by rest true is =
-        let first = waits-before other e.0 (without s e.1) (leave s queues) in
-        let told = count-before other (next_in s e.1) e.0 (freed s queues) in
-        let one = waits-without other s e.1 in
-        omega arith
-    by rest false is =
-        let told = count-before other (next_in s e.1) e.0 (freed s queues) in
-        let none = ap (one_for other) (next-none s e.1 is) in
-        omega arith
+waits-unlock_all : (other s : ℕ) (names : List (List ℕ)) (queues : Queues) → DoQueuesAscend queues → waits_of other (unlock_all s names queues) + count_of other (freed_all s names queues) ≤ waits_of other queues
+waits-unlock_all other s [] queues ascend = omega arith
+waits-unlock_all other s (name ∷ names) queues ascend =
+    let rest = waits-unlock_all other s names (unlock name s queues) (unlock-ascends name s queues ascend) in
+    let told = count-before other (next_owner name s queues) name (freed_all s names (unlock name s queues)) in
+    let one = waits-unlock other name s queues ascend in
+    omega arith
 
-pub leaver-waits : (s : ℕ) (queues : Queues) → waits_of s (leave s queues) ≡ 0
-leaver-waits s [] = refl
-leaver-waits s (e ∷ queues) = by (leaver-waits s queues) (stands_in s e.1) refl
-  where
-    by : waits_of s (leave s queues) ≡ 0 → (b : Bool) → stands_in s e.1 ≡ b → waits_of s (cond b (queue_before e.0 (without s e.1) (leave s queues)) (e ∷ leave s queues)) ≡ 0
-    by rest true is =
-        let first = waits-before s e.0 (without s e.1) (leave s queues) in
-        let gone = waits-gone s e.1 in
-        omega arith
-    by rest false is = let none = waits-none s e.1 is in omega arith
+pub waits-leave : (other s : ℕ) (queues : Queues) → DoQueuesAscend queues → waits_of other (leave s queues) + count_of other (freed s queues) ≤ waits_of other queues
+waits-leave other s queues ascend = waits-unlock_all other s (names_of s queues) queues ascend
 
 -- ---- a session that has asked for no lock
 
@@ -236,3 +211,7 @@ no_requests s queues ascend out = by (names_of s queues) (λ name. sym (requeste
     by : (names : List (List ℕ)) → ((name : List ℕ) → list_any (is_at (name_cmp name)) names ≡ false) → length names ≡ 0
     by [] none = refl
     by (name ∷ names) none = absurd (true≢false (sym (same_name-itself name) ∙ (or_parts (is_at (name_cmp name) name) (list_any (is_at (name_cmp name)) names) (none name)).0))
+
+-- after leaving it waits nowhere
+pub leaver-waits : (s : ℕ) (queues : Queues) → DoQueuesAscend queues → waits_of s (leave s queues) ≡ 0
+leaver-waits s queues ascend = no_waits s (leave s queues) (ap length (names-leave s s queues ascend) ∙ ap (λ b. length (cond b [] (names_of s queues))) (eq-eqb s s refl))

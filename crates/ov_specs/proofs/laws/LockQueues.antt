@@ -15,7 +15,7 @@ use Rattle.std.specs.Map.{keys_of, lookup, remove_entry}
 use Rattle.std.specs.Ordering.{is_eq, match_ordering, ordering_reverse}
 use Rattle.std.specs.Prelude.{unwrap_or}
 use Rattle.std.specs.Set.{remove_key}
-use Rattle.ov_specs.specs.locks.Queues.{Queues, queue_of, stands_in, has_requested, names_of, with_queue, lock, steal, without, unlock, queue_before, leave}
+use Rattle.ov_specs.specs.locks.Queues.{Queues, queue_of, stands_in, has_requested, names_of, with_queue, lock, steal, without, unlock, unlock_all, leave}
 pub use Rattle.ov_specs.specs.locks.Queues.{DoQueuesAscend}
 use Rattle.ov_specs.specs.schema.SchemaTypes.{name_cmp}
 use Rattle.ov_specs.proofs.laws.Names.{name_cmp_total, name_exact, same_name-itself}
@@ -343,62 +343,40 @@ module _ (name : List ℕ) (other session : ℕ) (queues : Queues) (ascend : DoQ
 
 -- ---- leaving
 
-names-before : (other : ℕ) (name queue : List ℕ) (queues : Queues) → names_of other (queue_before name queue queues) ≡ cond (stands_in other queue) (name ∷ names_of other queues) (names_of other queues)
-names-before other name [] queues = refl
-names-before other name (session ∷ queue) queues = refl
+pub unlock-ascends : (name : List ℕ) (session : ℕ) (queues : Queues) → DoQueuesAscend queues → DoQueuesAscend (unlock name session queues)
+unlock-ascends name session queues ascend = with_queue-ascends name (without session (queue_of name queues)) queues ascend
 
--- the one that leaves no longer asks for any lock, and the others for the same ones
-pub names-leave : (other session : ℕ) (queues : Queues) → names_of other (leave session queues) ≡ cond (eqb other session) [] (names_of other queues)
-names-leave other session [] = sym (same (eqb other session))
-  where
-    same : (b : Bool) → cond {A = List (List ℕ)} b [] [] ≡ []
-    same true = refl
-    same false = refl
-names-leave other session (e ∷ queues) = by (names-leave other session queues) (stands_in session e.1) refl
-  where
-    left : List (List ℕ)
-    left = names_of other (leave session queues)
-
-    names : List (List ℕ)
-    names = names_of other queues
-
-    goes : (b : Bool) → cond (cond b false (stands_in other e.1)) (e.0 ∷ cond b [] names) (cond b [] names) ≡ cond b [] (cond (stands_in other e.1) (e.0 ∷ names) names)
-    goes true = refl
-    goes false = refl
-
-    stays : stands_in session e.1 ≡ false → (b : Bool) → eqb other session ≡ b → cond (stands_in other e.1) (e.0 ∷ cond b [] names) (cond b [] names) ≡ cond b [] (cond (stands_in other e.1) (e.0 ∷ names) names)
-    stays out true is = ap (λ one. cond (stands_in one e.1) (e.0 ∷ []) []) (same_session other session is) ∙ ap (λ b. cond b (e.0 ∷ []) []) out
-    stays out false is = refl
-
-    by : left ≡ cond (eqb other session) [] names → (b : Bool) → stands_in session e.1 ≡ b
-        → names_of other (cond b (queue_before e.0 (without session e.1) (leave session queues)) (e ∷ leave session queues)) ≡ cond (eqb other session) [] (names_of other (e ∷ queues))
-    by rest true is =
-        names-before other e.0 (without session e.1) (leave session queues) ∙ (λ i. cond (stands-without other session e.1 i) (e.0 ∷ rest i) (rest i)) ∙ goes (eqb other session)
-    by rest false is = ap (λ ns. cond (stands_in other e.1) (e.0 ∷ ns) ns) rest ∙ stays is (eqb other session) refl
-
-all-before : (P : List ℕ → Type 0) (name queue : List ℕ) (queues : Queues) → AllByRecursion P (keys_of queues) → P name → AllByRecursion P (keys_of (queue_before name queue queues))
-all-before P name [] queues all p = all
-all-before P name (session ∷ queue) queues all p = (p, all)
-
-all-leave : (P : List ℕ → Type 0) (session : ℕ) (queues : Queues) → AllByRecursion P (keys_of queues) → AllByRecursion P (keys_of (leave session queues))
-all-leave P session [] all = tt
-all-leave P session (e ∷ queues) all = by (all-leave P session queues all.1) (stands_in session e.1)
-  where
-    by : AllByRecursion P (keys_of (leave session queues)) → (b : Bool) → AllByRecursion P (keys_of (cond b (queue_before e.0 (without session e.1) (leave session queues)) (e ∷ leave session queues)))
-    by later true = all-before P e.0 (without session e.1) (leave session queues) later all.0
-    by later false = (all.0, later)
-
-before-ascends : (name queue : List ℕ) (queues : Queues) → IsBelow name (keys_of queues) → DoQueuesAscend queues → DoQueuesAscend (queue_before name queue queues)
-unfolding IsStrictlySortedBy
-before-ascends name [] queues below ascend = ascend
-before-ascends name (session ∷ queue) queues below ascend = (below, ascend)
+-- what holds after each single lock is unlocked holds after all are
+pub unlock_all-keeps : (P : Queues → Type 0) (session : ℕ) → ((name : List ℕ) (queues : Queues) → P queues → P (unlock name session queues))
+    → (names : List (List ℕ)) (queues : Queues) → P queues → P (unlock_all session names queues)
+unlock_all-keeps P session keeps [] queues has = has
+unlock_all-keeps P session keeps (name ∷ names) queues has = unlock_all-keeps P session keeps names (unlock name session queues) (keeps name queues has)
 
 pub leave-ascends : (session : ℕ) (queues : Queues) → DoQueuesAscend queues → DoQueuesAscend (leave session queues)
-unfolding IsStrictlySortedBy
-leave-ascends session [] ascend = tt
-leave-ascends session (e ∷ queues) ascend = by (leave-ascends session queues ascend.1) (all-leave (λ other. name_cmp e.0 other ≡ Less) session queues ascend.0) (stands_in session e.1)
+leave-ascends session queues ascend = unlock_all-keeps DoQueuesAscend session (λ name qs. unlock-ascends name session qs) (names_of session queues) queues ascend
+
+-- a session that unlocks each lock that it asked for asks for none any longer
+names-unlock_all : (session : ℕ) (names : List (List ℕ)) (queues : Queues) → DoQueuesAscend queues → names_of session queues ≡ names → names_of session (unlock_all session names queues) ≡ []
+names-unlock_all session [] queues ascend are = are
+names-unlock_all session (name ∷ names) queues ascend are = names-unlock_all session names (unlock name session queues) (unlock-ascends name session queues ascend) fewer
   where
-    by : DoQueuesAscend (leave session queues) → IsBelow e.0 (keys_of (leave session queues)) → (b : Bool)
-        → DoQueuesAscend (cond b (queue_before e.0 (without session e.1) (leave session queues)) (e ∷ leave session queues))
-    by later below true = before-ascends e.0 (without session e.1) (leave session queues) below later
-    by later below false = (below, later)
+    fewer : names_of session (unlock name session queues) ≡ names
+    fewer =
+        names-unlock name session session queues ascend
+        ∙ ap (λ b. cond b (remove_key (is_at (name_cmp name)) (names_of session queues)) (names_of session queues)) (eq-eqb session session refl)
+        ∙ ap (remove_key (is_at (name_cmp name))) are ∙ ap (λ b. cond b names (name ∷ remove_key (is_at (name_cmp name)) names)) (same_name-itself name)
+
+-- and the others ask for the same ones
+names-unlock_all_other : (other session : ℕ) (names : List (List ℕ)) (queues : Queues) → DoQueuesAscend queues → eqb other session ≡ false
+    → names_of other (unlock_all session names queues) ≡ names_of other queues
+names-unlock_all_other other session [] queues ascend apart = refl
+names-unlock_all_other other session (name ∷ names) queues ascend apart =
+    names-unlock_all_other other session names (unlock name session queues) (unlock-ascends name session queues ascend) apart
+    ∙ names-unlock name other session queues ascend ∙ ap (λ b. cond b (remove_key (is_at (name_cmp name)) (names_of other queues)) (names_of other queues)) apart
+
+pub names-leave : (other session : ℕ) (queues : Queues) → DoQueuesAscend queues → names_of other (leave session queues) ≡ cond (eqb other session) [] (names_of other queues)
+names-leave other session queues ascend = by (eqb other session) refl
+  where
+    by : (b : Bool) → eqb other session ≡ b → names_of other (leave session queues) ≡ cond b [] (names_of other queues)
+    by true is = ap (λ one. names_of one (leave session queues)) (same_session other session is) ∙ names-unlock_all session (names_of session queues) queues ascend refl
+    by false is = names-unlock_all_other other session (names_of session queues) queues ascend is

@@ -7,14 +7,16 @@ use Rattle.std.proofs.lemmas.Map.Keys.{IsDistinct-cons}
 use Rattle.std.specs.BTreeMap.{is_at, insert_entry}
 use Rattle.std.specs.List.{AllByRecursion, IsDistinct, filter, list_any, list_all}
 use Rattle.std.specs.Map.{lookup, remove_entry}
-use Rattle.std.specs.Ordering.{match_ordering}
+use Rattle.std.specs.Ordering.{is_eq, match_ordering}
 use Rattle.std.specs.Prelude.{unwrap_or, option_to_list}
 use Rattle.serde_json.specs.Data.{Data}
-use Rattle.ov_specs.specs.locks.Queues.{Queues, LockCall, Lock, Steal, Unlock, HasNoRepeats, queue_of, first_of, owner, owns, stands_in, has_requested, names_of, with_queue, lock, steal, without, next_in, unlock, next_owner, queue_before, leave, freed_before, freed, after_call, told_of_call, told_of_leaving, locked_notification, stolen_notification}
+use Rattle.ov_specs.specs.locks.Queues.{Queues, LockCall, Lock, Steal, Unlock, HasNoRepeats, queue_of, first_of, owner, owns, stands_in, has_requested, names_of, with_queue, lock, steal, without, next_in, unlock, next_owner, freed_before, freed_all, leave, after_call, told_of_call, told_of_leaving, locked_notification, stolen_notification}
 use Rattle.ov_specs.specs.schema.Schema.{is_some_and}
 use Rattle.ov_specs.specs.schema.SchemaTypes.{name_cmp}
 use Rattle.ov_specs.proofs.laws.Lists.{all-filter}
-use Rattle.ov_specs.proofs.laws.LockQueues.{DoQueuesAscend, apart_back, requested-names, names-leave, leave-ascends}
+use Rattle.ov_specs.proofs.laws.LockQueues.{DoQueuesAscend, with_queue-ascends, apart_back, requested-names, unlock-ascends, unlock_all-keeps, names-leave, leave-ascends}
+use Rattle.ov_specs.proofs.laws.Names.{name_exact, same_name-itself}
+use Rattle.ov_specs.proofs.laws.Truths.{equal_is}
 
 -- ---- one owner
 
@@ -35,13 +37,13 @@ one_owner name queues a b own also = same_Some a b (sym (owns-owner name queues 
 
 -- ---- nobody stays after leaving
 
+-- the one that leaves asks for no lock any longer
+no_names_left : (session : ℕ) (queues : Queues) → DoQueuesAscend queues → names_of session (leave session queues) ≡ []
+no_names_left session queues ascend = names-leave session session queues ascend ∙ ap (λ b. cond b [] (names_of session queues)) (eq-eqb session session refl)
+
 pub none_left : (session : ℕ) (name : List ℕ) (queues : Queues) → DoQueuesAscend queues → has_requested session name (leave session queues) ≡ false
 none_left session name queues ascend =
-    requested-names session name (leave session queues) (leave-ascends session queues ascend)
-    ∙ ap (list_any (is_at (name_cmp name))) (names-leave session session queues ∙ ap (λ b. cond b [] (names_of session queues)) (itself session))
-  where
-    itself : (session : ℕ) → eqb session session ≡ true
-    itself session = eq-eqb session session refl
+    requested-names session name (leave session queues) (leave-ascends session queues ascend) ∙ ap (list_any (is_at (name_cmp name))) (no_names_left session queues ascend)
 
 -- ---- what holds of each queue
 
@@ -82,19 +84,22 @@ module _ (P : List ℕ → Type 0) where
   with-has name [] queues all new = out-has name queues all
   with-has name (session ∷ queue) queues all new = put-has name (session ∷ queue) queues all new
 
-  before-has : (name queue : List ℕ) (queues : Queues) → P queue → EachQueue P queues → EachQueue P (queue_before name queue queues)
-  before-has name [] queues new all = all
-  before-has name (session ∷ queue) queues new all = (new, all)
-
--- what holds of the queues after a session leaves, of those that it stood in and of the others
-pub leave-has : (P Q : List ℕ → Type 0) (session : ℕ) → ((queue : List ℕ) → P queue → Q (without session queue)) → ((queue : List ℕ) → stands_in session queue ≡ false → P queue → Q queue)
-    → (queues : Queues) → EachQueue P queues → EachQueue Q (leave session queues)
-leave-has P Q session left stays [] all = tt
-leave-has P Q session left stays (e ∷ queues) all = by (leave-has P Q session left stays queues all.1) (stands_in session e.1) refl
+-- a session that asked for no lock stands in no queue
+out-each : (session : ℕ) (queues : Queues) → names_of session queues ≡ [] → EachQueue (λ queue. stands_in session queue ≡ false) queues
+out-each session [] none = tt
+out-each session (e ∷ queues) none = by (out-each session queues) (stands_in session e.1) refl none
   where
-    by : EachQueue Q (leave session queues) → (b : Bool) → stands_in session e.1 ≡ b → EachQueue Q (cond b (queue_before e.0 (without session e.1) (leave session queues)) (e ∷ leave session queues))
-    by later true is = before-has Q e.0 (without session e.1) (leave session queues) (left e.1 all.0) later
-    by later false is = (stays e.1 is all.0, later)
+    by : (names_of session queues ≡ [] → EachQueue (λ queue. stands_in session queue ≡ false) queues) → (b : Bool) → stands_in session e.1 ≡ b
+        → cond b (e.0 ∷ names_of session queues) (names_of session queues) ≡ [] → EachQueue (λ queue. stands_in session queue ≡ false) (e ∷ queues)
+    by rest true is none = cc
+    by rest false is none = (is, rest none)
+
+-- ---- the queues ascend after a call
+
+pub call-ascends : (call : LockCall) (name : List ℕ) (session : ℕ) (queues : Queues) → DoQueuesAscend queues → DoQueuesAscend (after_call call name session queues)
+call-ascends Lock name session queues ascend = with_queue-ascends name (queue_of name queues ++ session ∷ []) queues ascend
+call-ascends Steal name session queues ascend = with_queue-ascends name (session ∷ queue_of name queues) queues ascend
+call-ascends Unlock name session queues ascend = unlock-ascends name session queues ascend
 
 -- ---- nobody stands in a queue twice
 
@@ -157,8 +162,7 @@ module _ (name : List ℕ) (session : ℕ) (queues : Queues) (once : HaveNoRepea
   unlock-once = with-has HasNoRepeats name (without session queue) queues once (kept-distinct (λ other. not (eqb other session)) queue (queue-distinct name queues once))
 
 pub leave-once : (session : ℕ) (queues : Queues) → HaveNoRepeats queues → HaveNoRepeats (leave session queues)
-leave-once session queues once =
-    leave-has HasNoRepeats HasNoRepeats session (λ queue one. kept-distinct (λ other. not (eqb other session)) queue one) (λ queue out one. one) queues once
+leave-once session queues once = unlock_all-keeps HaveNoRepeats session (λ name qs. unlock-once name session qs) (names_of session queues) queues once
 
 -- ---- who stands in a queue passes a test
 
@@ -193,15 +197,31 @@ module _ (test : ℕ → Bool) where
       by true is = first-passes (without session queue) next (all-filter (λ other. not (eqb other session)) test queue (and_parts (test first) (list_all test queue) all).1) is
       by false is = cc
 
+  -- who stands in a queue after a session unlocks a lock
+  unlock-passes : (name : List ℕ) (session : ℕ) (queues : Queues) → EachQueue (AllPass test) queues → EachQueue (AllPass test) (unlock name session queues)
+  unlock-passes name session queues all =
+      let its = queue_of name queues in
+      with-has (AllPass test) name (without session its) queues all (all-filter (λ other. not (eqb other session)) test its (queue-has (AllPass test) name queues refl all))
+
   -- which sessions a session's leaving notifies
-  pub leaving-passes : (session : ℕ) (queues : Queues) → EachQueue (AllPass test) queues → list_all (λ (notification : ℕ × Data). test notification.0) (told_of_leaving session queues) ≡ true
-  leaving-passes session [] all = refl
-  leaving-passes session (e ∷ queues) all = by (leaving-passes session queues all.1) (next_in session e.1) refl
+  freed-passes : (session : ℕ) (names : List (List ℕ)) (queues : Queues) → EachQueue (AllPass test) queues
+      → list_all (λ (notification : ℕ × Data). test notification.0) (map (λ f. (f.0, locked_notification f.1)) (freed_all session names queues)) ≡ true
+  freed-passes session [] queues all = refl
+  freed-passes session (name ∷ names) queues all =
+      by (next_owner name session queues) refl (freed-passes session names (unlock name session queues) (unlock-passes name session queues all))
     where
-      by : list_all (λ (notification : ℕ × Data). test notification.0) (told_of_leaving session queues) ≡ true → (next : Option ℕ) → next_in session e.1 ≡ next
-          → list_all (λ (notification : ℕ × Data). test notification.0) (map (λ f. (f.0, locked_notification f.1)) (freed_before next e.0 (freed session queues))) ≡ true
-      by later None is = later
-      by later (Some next) is = and_from (test next) (list_all (λ (notification : ℕ × Data). test notification.0) (told_of_leaving session queues)) (next-passes e.1 session next all.0 is) later
+      later : List (ℕ × List ℕ)
+      later = freed_all session names (unlock name session queues)
+
+      by : (next : Option ℕ) → next_owner name session queues ≡ next → list_all (λ (notification : ℕ × Data). test notification.0) (map (λ f. (f.0, locked_notification f.1)) later) ≡ true
+          → list_all (λ (notification : ℕ × Data). test notification.0) (map (λ f. (f.0, locked_notification f.1)) (freed_before next name later)) ≡ true
+      by None is rest = rest
+      by (Some next) is rest =
+          let own = next-passes (queue_of name queues) session next (queue-has (AllPass test) name queues refl all) is in
+          and_from (test next) (list_all (λ (notification : ℕ × Data). test notification.0) (map (λ f. (f.0, locked_notification f.1)) later)) own rest
+
+  pub leaving-passes : (session : ℕ) (queues : Queues) → EachQueue (AllPass test) queues → list_all (λ (notification : ℕ × Data). test notification.0) (told_of_leaving session queues) ≡ true
+  leaving-passes session queues all = freed-passes session (names_of session queues) queues all
 
   module _ (session : ℕ) (name : List ℕ) (queues : Queues) (all : EachQueue (AllPass test) queues) where
     abbrev its : List ℕ
@@ -225,7 +245,7 @@ module _ (test : ℕ → Bool) where
     after-passes Lock own =
         with-has (AllPass test) name (its ++ session ∷ []) queues all (list_all-append test its (session ∷ []) ∙ and_from (list_all test its) (test session && true) passes (and_from (test session) true own refl))
     after-passes Steal own = with-has (AllPass test) name (session ∷ its) queues all (and_from (test session) (list_all test its) own passes)
-    after-passes Unlock own = with-has (AllPass test) name (without session its) queues all (all-filter (λ other. not (eqb other session)) test its passes)
+    after-passes Unlock own = unlock-passes name session queues all
 
 -- what passes one test passes another
 pub each-so : (one other : ℕ → Bool) → ((n : ℕ) → one n ≡ true → other n ≡ true) → (queues : Queues) → EachQueue (AllPass one) queues → EachQueue (AllPass other) queues
@@ -240,17 +260,6 @@ each-so one other so (e ∷ queues) all = (pass e.1 all.0, each-so one other so 
 
 -- who stands in a queue after a session leaves passes another test, if the others that passed the first pass it
 module _ (one other : ℕ → Bool) (session : ℕ) (so : (n : ℕ) → one n ≡ true → eqb n session ≡ false → other n ≡ true) where
-  left-passes : (queue : List ℕ) → AllPass one queue → AllPass other (without session queue)
-  left-passes [] all = refl
-  left-passes (n ∷ queue) all = by (left-passes queue parts.1) (eqb n session) refl
-    where
-      parts : (one n ≡ true) × AllPass one queue
-      parts = and_parts (one n) (list_all one queue) all
-
-      by : AllPass other (without session queue) → (b : Bool) → eqb n session ≡ b → AllPass other (cond (not b) (n ∷ without session queue) (without session queue))
-      by later true is = later
-      by later false is = and_from (other n) (list_all other (without session queue)) (so n parts.0 is) later
-
   stay-passes : (queue : List ℕ) → stands_in session queue ≡ false → AllPass one queue → AllPass other queue
   stay-passes [] out all = refl
   stay-passes (n ∷ queue) out all =
@@ -258,31 +267,83 @@ module _ (one other : ℕ → Bool) (session : ℕ) (so : (n : ℕ) → one n �
       let apart = or_parts (eqb n session) (stands_in session queue) out in
       and_from (other n) (list_all other queue) (so n parts.0 apart.0) (stay-passes queue apart.1 parts.1)
 
-  pub leave-passes : (queues : Queues) → EachQueue (AllPass one) queues → EachQueue (AllPass other) (leave session queues)
-  leave-passes queues all = leave-has (AllPass one) (AllPass other) session left-passes stay-passes queues all
+  each-passes : (queues : Queues) → EachQueue (λ queue. stands_in session queue ≡ false) queues → EachQueue (AllPass one) queues → EachQueue (AllPass other) queues
+  each-passes [] out all = tt
+  each-passes (e ∷ queues) out all = (stay-passes e.1 out.0 all.0, each-passes queues out.1 all.1)
+
+  pub leave-passes : (queues : Queues) → DoQueuesAscend queues → EachQueue (AllPass one) queues → EachQueue (AllPass other) (leave session queues)
+  leave-passes queues ascend all =
+      each-passes (leave session queues) (out-each session (leave session queues) (no_names_left session queues ascend))
+      (unlock_all-keeps (EachQueue (AllPass one)) session (λ name qs. unlock-passes one name session qs) (names_of session queues) queues all)
+
+-- ---- the queue of a lock, after another was given to it or to another lock
+
+queue_of-put : (name queue : List ℕ) (queues : Queues) → queue_of name (insert_entry name_cmp queues name queue) ≡ queue
+queue_of-put name queue [] = ap (λ b. unwrap_or (cond b (Some queue) None) []) (same_name-itself name)
+queue_of-put name queue (e ∷ queues) = by (queue_of-put name queue queues) (name_cmp name e.0) refl
+  where
+    by : queue_of name (insert_entry name_cmp queues name queue) ≡ queue → (o : Ordering) → name_cmp name e.0 ≡ o
+        → queue_of name (match_ordering o ((name, queue) ∷ e ∷ queues) ((e.0, queue) ∷ queues) (e ∷ insert_entry name_cmp queues name queue)) ≡ queue
+    by later Less is = ap (λ b. unwrap_or (cond b (Some queue) (lookup (is_at (name_cmp name)) (e ∷ queues))) []) (same_name-itself name)
+    by later Equal is = ap (λ o. unwrap_or (cond (is_eq o) (Some queue) (lookup (is_at (name_cmp name)) queues)) []) is
+    by later Greater is = ap (λ o. unwrap_or (cond (is_eq o) (Some e.1) (lookup (is_at (name_cmp name)) (insert_entry name_cmp queues name queue))) []) is ∙ later
+
+module _ (name at : List ℕ) (away : is_at (name_cmp name) at ≡ false) where
+  -- one that is not the lock's
+  passed-by : (queue : List ℕ) (queues : Queues) → queue_of name ((at, queue) ∷ queues) ≡ queue_of name queues
+  passed-by queue queues = ap (λ b. unwrap_or (cond b (Some queue) (lookup (is_at (name_cmp name)) queues)) []) away
+
+  -- the same before others
+  same-before : (e : List ℕ × List ℕ) (queues others : Queues) → queue_of name queues ≡ queue_of name others → queue_of name (e ∷ queues) ≡ queue_of name (e ∷ others)
+  same-before e queues others same = by (is_at (name_cmp name) e.0)
+    where
+      by : (b : Bool) → unwrap_or (cond b (Some e.1) (lookup (is_at (name_cmp name)) queues)) [] ≡ unwrap_or (cond b (Some e.1) (lookup (is_at (name_cmp name)) others)) []
+      by true = refl
+      by false = same
+
+  queue_of-put_other : (queue : List ℕ) (queues : Queues) → queue_of name (insert_entry name_cmp queues at queue) ≡ queue_of name queues
+  queue_of-put_other queue [] = passed-by queue []
+  queue_of-put_other queue (e ∷ queues) = by (queue_of-put_other queue queues) (name_cmp at e.0) refl
+    where
+      by : queue_of name (insert_entry name_cmp queues at queue) ≡ queue_of name queues → (o : Ordering) → name_cmp at e.0 ≡ o
+          → queue_of name (match_ordering o ((at, queue) ∷ e ∷ queues) ((e.0, queue) ∷ queues) (e ∷ insert_entry name_cmp queues at queue)) ≡ queue_of name (e ∷ queues)
+      by later Less is = passed-by queue (e ∷ queues)
+      by later Equal is =
+          let here : e.0 ≡ at = sym (name_exact at e.0 is) in
+          ap (λ n. queue_of name ((n, queue) ∷ queues)) here ∙ passed-by queue queues ∙ sym (passed-by e.1 queues) ∙ ap (λ n. queue_of name ((n, e.1) ∷ queues)) (sym here)
+      by later Greater is = same-before e (insert_entry name_cmp queues at queue) queues later
+
+  queue_of-out_other : (queues : Queues) → queue_of name (remove_entry (is_at (name_cmp at)) queues) ≡ queue_of name queues
+  queue_of-out_other [] = refl
+  queue_of-out_other (e ∷ queues) = by (queue_of-out_other queues) (is_at (name_cmp at) e.0) refl
+    where
+      by : queue_of name (remove_entry (is_at (name_cmp at)) queues) ≡ queue_of name queues → (b : Bool) → is_at (name_cmp at) e.0 ≡ b
+          → queue_of name (cond b queues (e ∷ remove_entry (is_at (name_cmp at)) queues)) ≡ queue_of name (e ∷ queues)
+      by later true is =
+          let here : e.0 ≡ at = sym (name_exact at e.0 (equal_is _ is)) in
+          sym (passed-by e.1 queues) ∙ ap (λ n. queue_of name ((n, e.1) ∷ queues)) (sym here)
+      by later false is = same-before e (remove_entry (is_at (name_cmp at)) queues) queues later
+
+  queue_of-with_other : (queue : List ℕ) (queues : Queues) → queue_of name (with_queue at queue queues) ≡ queue_of name queues
+  queue_of-with_other [] queues = queue_of-out_other queues
+  queue_of-with_other (session ∷ queue) queues = queue_of-put_other (session ∷ queue) queues
 
 -- ---- an owner stays the owner while others leave
 
 module _ (session other : ℕ) (apart : eqb session other ≡ false) (name : List ℕ) where
-  first-stays : (at queue : List ℕ) (queues : Queues) → is_at (name_cmp name) at ≡ true → stands_first session queue ≡ true → owns (queue_before at (without other queue) queues) session name ≡ true
-  first-stays at [] queues here first = absurd (false≢true first)
-  first-stays at (n ∷ queue) queues here first =
+  first-stays : (queue : List ℕ) (queues : Queues) → stands_first session queue ≡ true → owns (with_queue name (without other queue) queues) session name ≡ true
+  first-stays [] queues first = absurd (false≢true first)
+  first-stays (n ∷ queue) queues first =
       let stays : eqb n other ≡ false = ap (λ k. eqb k other) (eqb-true n session first) ∙ apart in
-      ap (λ b. owns (queue_before at (cond (not b) (n ∷ without other queue) (without other queue)) queues) session name) stays
-      ∙ (ap (λ b. stands_first session (unwrap_or (cond b (Some (n ∷ without other queue)) (lookup (is_at (name_cmp name)) queues)) [])) here ∙ first)
+      ap (λ b. owns (with_queue name (cond (not b) (n ∷ without other queue) (without other queue)) queues) session name) stays
+      ∙ ap (stands_first session) (queue_of-put name (n ∷ without other queue) queues) ∙ first
 
-  passed-by : (at queue : List ℕ) (queues : Queues) → is_at (name_cmp name) at ≡ false → queue_of name (queue_before at queue queues) ≡ queue_of name queues
-  passed-by at [] queues away = refl
-  passed-by at (n ∷ queue) queues away = ap (λ b. unwrap_or (cond b (Some (n ∷ queue)) (lookup (is_at (name_cmp name)) queues)) []) away
+  unlock-stays : (at : List ℕ) (queues : Queues) → owns queues session name ≡ true → owns (unlock at other queues) session name ≡ true
+  unlock-stays at queues own = by (is_at (name_cmp name) at) refl
+    where
+      by : (b : Bool) → is_at (name_cmp name) at ≡ b → owns (unlock at other queues) session name ≡ true
+      by true is = ap (λ n. owns (unlock n other queues) session name) (sym (name_exact name at (equal_is _ is))) ∙ first-stays (queue_of name queues) queues own
+      by false is = ap (stands_first session) (queue_of-with_other name at is (without other (queue_of at queues)) queues) ∙ own
 
   pub owner-stays : (queues : Queues) → owns queues session name ≡ true → owns (leave other queues) session name ≡ true
-  owner-stays [] own = own
-  owner-stays (e ∷ queues) own = by (owner-stays queues) (is_at (name_cmp name) e.0) refl own (stands_in other e.1)
-    where
-      by : (owns queues session name ≡ true → owns (leave other queues) session name ≡ true) → (b : Bool) → is_at (name_cmp name) e.0 ≡ b
-          → stands_first session (unwrap_or (cond b (Some e.1) (lookup (is_at (name_cmp name)) queues)) []) ≡ true → (c : Bool)
-          → owns (cond c (queue_before e.0 (without other e.1) (leave other queues)) (e ∷ leave other queues)) session name ≡ true
-      by later true is own true = first-stays e.0 e.1 (leave other queues) is own
-      by later true is own false = ap (λ b. stands_first session (unwrap_or (cond b (Some e.1) (lookup (is_at (name_cmp name)) (leave other queues))) [])) is ∙ own
-      by later false is own true = ap (stands_first session) (passed-by e.0 (without other e.1) (leave other queues) is) ∙ later own
-      by later false is own false = ap (λ b. stands_first session (unwrap_or (cond b (Some e.1) (lookup (is_at (name_cmp name)) (leave other queues))) [])) is ∙ later own
+  owner-stays queues own = unlock_all-keeps (λ qs. owns qs session name ≡ true) other unlock-stays (names_of other queues) queues own

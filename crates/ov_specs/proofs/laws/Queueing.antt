@@ -1,5 +1,5 @@
 -- The queues of locks in the states that a history leads to: they ascend, nobody stands in one twice, and all who do are open.
-use Rattle.std.proofs.Common.{◌≡◌, ℕ, List, [], ◌∷◌, ◌++◌, Bool, true, false, cond, eqb, leb, Option, Some, None, inl, inr, refl, sym, ap, subst, ◌∙◌}
+use Rattle.std.proofs.Common.{◌≡◌, ℕ, List, [], ◌∷◌, Bool, true, false, cond, eqb, leb, Option, Some, None, inl, inr, refl, sym, ap, subst, ◌∙◌}
 use Rattle.std.specs.Prelude.{◌&&◌, ◌||◌, ◌-◌, codes, option_map, is_some, Result, Ok, Err}
 use Rattle.std.specs.List.Sorted.{IsStrictlySortedBy}
 use Rattle.std.specs.Str.{bytes_eq}
@@ -7,7 +7,7 @@ use Rattle.std.proofs.lemmas.Bool.{cases_Bool, false≢true}
 use Rattle.std.proofs.lemmas.Option.{same_Some}
 use Rattle.serde_json.specs.Data.{Data, Items, no_items, item}
 use Rattle.serde_json.specs.Find.{as_str, as_object}
-use Rattle.ov_specs.specs.locks.Queues.{Queues, DoQueuesAscend, LockCall, Lock, Steal, Unlock, HasNoRepeats, queue_of, without, leave, lock_name, owns, has_requested, requests_of, lock_limit, lock_refusal, call_refusal, after_call}
+use Rattle.ov_specs.specs.locks.Queues.{Queues, DoQueuesAscend, LockCall, Lock, Steal, Unlock, HasNoRepeats, queue_of, leave, lock_name, owns, has_requested, requests_of, lock_limit, lock_refusal, call_refusal, after_call}
 use Rattle.ov_specs.specs.machine.History.{run}
 use Rattle.ov_specs.specs.machine.Machine.{State, Entry, Event, Open, Take, Close, Tick, Choice, Outcome, Attempt, Outstanding, Listed, listed, Stepped, Passed, Work, Answers, Transact, Cancels, Locks, Watches, work_of, cancel_notification, transact_call, transact_call_on, schema_call, schema_call_on, lock_call, lock_call_on, monitors_of, monitor_work, monitor_call, monitor_call_on, monitor_cancel_work, monitor_cancel_call, unless_refused, is_open, is_waiting, waiting_of, most_waiting, arrived, works, tries_again, closed, happens, takes_and_settles, settle, step, ends, is_without_choice, none_drawn, with_next_session, opening}
 use Rattle.ov_specs.specs.monitors.Monitors.{Monitor, added, canceled}
@@ -18,9 +18,9 @@ use Rattle.ov_specs.specs.schema.SchemaTypes.{Schema}
 use Rattle.ov_specs.specs.values.Uuid.{Uuid}
 use Rattle.ov_specs.specs.wire.Message.{Message, Call, Notification, Answer, Bad}
 use Rattle.ov_specs.proofs.laws.Histories.{run_parts}
-use Rattle.ov_specs.proofs.laws.LockQueues.{with_queue-ascends, leave-ascends}
-use Rattle.ov_specs.proofs.laws.Locks.{HaveNoRepeats, queue-distinct, requested-passes, each-so, lock-once, steal-once, unlock-once, leave-once}
-use Rattle.ov_specs.proofs.laws.Settling.{AreToOpen, StandOpen, closed_within, all-any}
+use Rattle.ov_specs.proofs.laws.LockQueues.{leave-ascends}
+use Rattle.ov_specs.proofs.laws.Locks.{call-ascends, HaveNoRepeats, queue-distinct, requested-passes, each-so, lock-once, steal-once, unlock-once, leave-once}
+use Rattle.ov_specs.proofs.laws.Settling.{AreToOpen, StandOpen, StandInOrder, closed_within, all-any}
 use Rattle.ov_specs.proofs.laws.Tries.{left_by, IsKeptByTries, settle_keeps, takes_first, tick_first}
 use Rattle.ov_specs.proofs.laws.Turns.{is_open-more, stepped, take_within, tick_within}
 use Rattle.ov_specs.proofs.laws.Works.{OfOutcome, when_is, try_has, work_has}
@@ -132,9 +132,9 @@ leaves_once : (n : ℕ) (queues : Queues) → Once queues → Once (leave n queu
 leaves_once n queues once = (leave-ascends n queues once.0, leave-once n queues once.1)
 
 call_once : (call : LockCall) (name : List ℕ) (n : ℕ) (queues : Queues) → Once queues → call_refusal call name n queues ≡ None → Once (after_call call name n queues)
-call_once Lock name n queues once may = (with_queue-ascends name (queue_of name queues ++ n ∷ []) queues once.0, lock-once name n queues once.1 (not_requested name n queues may))
-call_once Steal name n queues once may = (with_queue-ascends name (n ∷ queue_of name queues) queues once.0, steal-once name n queues once.1 (not_requested name n queues may))
-call_once Unlock name n queues once may = (with_queue-ascends name (without n (queue_of name queues)) queues once.0, unlock-once name n queues once.1)
+call_once Lock name n queues once may = (call-ascends Lock name n queues once.0, lock-once name n queues once.1 (not_requested name n queues may))
+call_once Steal name n queues once may = (call-ascends Steal name n queues once.0, steal-once name n queues once.1 (not_requested name n queues may))
+call_once Unlock name n queues once may = (call-ascends Unlock name n queues once.0, unlock-once name n queues once.1)
 
 -- in the state that a step leads to
 abbrev Leads : Bool → Stepped → Type 0
@@ -190,16 +190,16 @@ happens_once s c Tick t once h =
 
 -- ---- who stands in a queue is open
 
-stand_open : (s : State) (e : Entry) (t : Stepped) → step s e ≡ Some t → StandOpen s → (what : Event) → e.event ≡ what → StandOpen t.state
+stand_open : (s : State) (e : Entry) (t : Stepped) → step s e ≡ Some t → StandInOrder s → (what : Event) → e.event ≡ what → StandOpen t.state
 stand_open s e t h stand Open is =
     let x : Stepped = record { state = with_next_session (record s { moment = e.choice.moment }); sent = [] } in
     let same : x ≡ t = same_Some x t (when_is (is_without_choice e.choice) (Some x) t (stepped s e t Open is h)) in
-    subst (λ (v : Stepped). StandOpen v.state) same (each-so (is_open s) (is_open x.state) (λ n there. is_open-more s n ∙ ap (λ b. b || eqb s.next n) there) s.queues stand)
-stand_open s e t h stand (Take n message) is = ((take_within s e t h n message is).1 stand).0
+    subst (λ (v : Stepped). StandOpen v.state) same (each-so (is_open s) (is_open x.state) (λ n there. is_open-more s n ∙ ap (λ b. b || eqb s.next n) there) s.queues stand.1)
+stand_open s e t h stand (Take n message) is = ((take_within s e t h n message is).1 stand).0.1
 stand_open s e t h stand (Close n cause) is =
     let now : State = record s { moment = e.choice.moment } in
-    subst (λ (v : Stepped). StandOpen v.state) (same_Some (closed now n) t (when_is (is_without_choice e.choice && is_open s n) (Some (closed now n)) t (stepped s e t (Close n cause) is h))) ((closed_within now n).1 stand).0
-stand_open s e t h stand Tick is = ((tick_within s e t h is).1 stand).0
+    subst (λ (v : Stepped). StandOpen v.state) (same_Some (closed now n) t (when_is (is_without_choice e.choice && is_open s n) (Some (closed now n)) t (stepped s e t (Close n cause) is h))) ((closed_within now n).1 stand).0.1
+stand_open s e t h stand Tick is = ((tick_within s e t h is).1 stand).0.1
 
 -- ---- steps and runs
 
@@ -210,7 +210,7 @@ InOrder s = Once s.queues × StandOpen s
 pub step_in_order : (s : State) (e : Entry) (t : Stepped) → step s e ≡ Some t → InOrder s → InOrder t.state
 step_in_order s e t h order =
     let now : State = record s { moment = e.choice.moment } in
-    (happens_once now e.choice e.event t order.0 (when_is (leb s.moment e.choice.moment) (happens now e.choice e.event) t h), stand_open s e t h order.1 e.event refl)
+    (happens_once now e.choice e.event t order.0 (when_is (leb s.moment e.choice.moment) (happens now e.choice e.event) t h), stand_open s e t h (order.0.0, order.1) e.event refl)
 
 pub run_in_order : (s : State) (history : List Entry) (t : Stepped) → run s history ≡ Some t → InOrder s → InOrder t.state
 run_in_order s [] t h order = subst (λ (v : Stepped). InOrder v.state) (same_Some (record { state = s; sent = [] }) t h) order
@@ -226,11 +226,11 @@ step_sends_open s e t h order = by e.event refl
     by Open is =
         let x : Stepped = record { state = with_next_session (record s { moment = e.choice.moment }); sent = [] } in
         subst (λ (v : Stepped). AreToOpen s v.sent) (same_Some x t (when_is (is_without_choice e.choice) (Some x) t (stepped s e t Open is h))) refl
-    by (Take n message) is = ((take_within s e t h n message is).1 order.1).1
+    by (Take n message) is = ((take_within s e t h n message is).1 (order.0.0, order.1)).1
     by (Close n cause) is =
         let now : State = record s { moment = e.choice.moment } in
-        subst (λ (v : Stepped). AreToOpen s v.sent) (same_Some (closed now n) t (when_is (is_without_choice e.choice && is_open s n) (Some (closed now n)) t (stepped s e t (Close n cause) is h))) ((closed_within now n).1 order.1).1
-    by Tick is = ((tick_within s e t h is).1 order.1).1
+        subst (λ (v : Stepped). AreToOpen s v.sent) (same_Some (closed now n) t (when_is (is_without_choice e.choice && is_open s n) (Some (closed now n)) t (stepped s e t (Close n cause) is h))) ((closed_within now n).1 (order.0.0, order.1)).1
+    by Tick is = ((tick_within s e t h is).1 (order.0.0, order.1)).1
 
 -- ---- from an opening on
 

@@ -11,12 +11,13 @@ use Rattle.std.proofs.lemmas.List.Folds.{list_all-append}
 use Rattle.std.proofs.lemmas.Nat.{mul-le}
 use Rattle.std.proofs.lemmas.Option.{same_Some}
 use Rattle.serde_json.specs.Data.{Data, Items}
-use Rattle.ov_specs.specs.locks.Queues.{owns, leave, told_of_leaving}
+use Rattle.ov_specs.specs.locks.Queues.{DoQueuesAscend, owns, leave, told_of_leaving}
 use Rattle.ov_specs.specs.machine.Machine.{State, Session, Outcome, Attempt, Outstanding, Sent, Stepped, Passed, listed, tries_again, is_kept, is_open, passed, passes_after, still_waiting, waits_after, waits_on, pass, settle_within, settle, to_session, results_of, results_to, updates_sent, told, of_others, closed}
 use Rattle.ov_specs.specs.machine.Blocked.{IsBlocked, AreBlocked}
 use Rattle.ov_specs.specs.monitors.Updates.{all_updates, update_notification}
 use Rattle.ov_specs.specs.rows.Database.{Database}
 use Rattle.ov_specs.specs.operations.Transaction.{TransactionOutcome, transaction, failed_results}
+use Rattle.ov_specs.proofs.laws.LockQueues.{leave-ascends}
 use Rattle.ov_specs.proofs.laws.Locks.{EachQueue, AllPass, leaving-passes, leave-passes, owner-stays}
 use Rattle.ov_specs.proofs.laws.Owning.{waits_owning}
 use Rattle.ov_specs.proofs.laws.Tries.{left_by, sent_by, emptied, pass_first, settle_first, IsKeptByTries, settle_keeps}
@@ -76,10 +77,14 @@ AreToOpen s sent = list_all (λ x. is_open s x.session) sent ≡ true
 abbrev pub StandOpen : State → Type 0
 StandOpen s = EachQueue (AllPass (is_open s)) s.queues
 
--- No session is opened; and if those that stood in queues were open, so are those that stand in them then, and what is sent
--- is sent to sessions that were open.
+-- the queues ascend, and who stands in one is open
+abbrev pub StandInOrder : State → Type 0
+StandInOrder s = DoQueuesAscend s.queues × StandOpen s
+
+-- No session is opened; and if the queues ascended and those that stood in them were open, so it is then, and what is sent is
+-- sent to sessions that were open.
 abbrev pub IsWithin : State → State → List Sent → Type 0
-IsWithin s t sent = IsNoMore s t × (StandOpen s → StandOpen t × AreToOpen s sent)
+IsWithin s t sent = IsNoMore s t × (StandInOrder s → StandInOrder t × AreToOpen s sent)
 
 no_more-then : (s t u : State) → IsNoMore s t → IsNoMore t u → IsNoMore s u
 no_more-then s t u a b = record { schema = b.schema ∙ a.schema; moment = b.moment ∙ a.moment; next = b.next ∙ a.next; still_open = λ n there. a.still_open n (b.still_open n there) }
@@ -150,8 +155,8 @@ pub closed_within : (s : State) (n : ℕ) → IsWithin s (closed s n).state (clo
 closed_within s n = (
   no_more-closed s n,
   λ stand. (
-    leave-passes (is_open s) (is_open (closed s n).state) n (λ m there apart. others_open s n m apart ∙ there) s.queues stand,
-    told_open s (told_of_leaving n s.queues) (leaving-passes (is_open s) n s.queues stand),
+    (leave-ascends n s.queues stand.0, leave-passes (is_open s) (is_open (closed s n).state) n (λ m there apart. others_open s n m apart ∙ there) s.queues stand.0 stand.1),
+    told_open s (told_of_leaving n s.queues) (leaving-passes (is_open s) n s.queues stand.1),
   ),
 )
 

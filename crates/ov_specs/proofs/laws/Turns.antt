@@ -15,7 +15,7 @@ use Rattle.ov_specs.specs.monitors.Monitors.{Monitor}
 use Rattle.ov_specs.specs.operations.Transaction.{transaction}
 use Rattle.ov_specs.specs.wire.Frame.{reply_tree, failure_tree}
 use Rattle.ov_specs.proofs.laws.Lists.{any-map}
-use Rattle.ov_specs.proofs.laws.Locks.{each-so, after-passes, call-passes}
+use Rattle.ov_specs.proofs.laws.Locks.{call-ascends, each-so, after-passes, call-passes}
 use Rattle.ov_specs.proofs.laws.Settling.{IsNoMore, IsWithin, no_more-same, to_open, told_open, closed_within, within-then, outcome_within, settle_within_open}
 use Rattle.ov_specs.proofs.laws.Tries.{left_by, sent_by, takes_first, tick_first}
 use Rattle.ov_specs.proofs.laws.Truths.{or_nothing}
@@ -183,9 +183,9 @@ locks_within : (s : State) (m : ℕ) → is_open s m ≡ true → (call : LockCa
 locks_within s m there call id name = (
   no_more-same s (locks s m call id name).state refl refl refl refl,
   λ stand. (
-    after-passes (is_open s) m name s.queues stand call there,
+    (call-ascends call name m s.queues stand.0, after-passes (is_open s) m name s.queues stand.1 call there),
     list_all-append (λ x. is_open s x.session) (to_session m (reply ∷ [])) (told notifications)
-        ∙ and_from (list_all (λ x. is_open s x.session) (to_session m (reply ∷ []))) (list_all (λ x. is_open s x.session) (told notifications)) (to_open s m (reply ∷ []) there) (told_open s notifications (call-passes (is_open s) m name s.queues stand call)),
+        ∙ and_from (list_all (λ x. is_open s x.session) (to_session m (reply ∷ []))) (list_all (λ x. is_open s x.session) (told notifications)) (to_open s m (reply ∷ []) there) (told_open s notifications (call-passes (is_open s) m name s.queues stand.1 call)),
   ),
 )
   where
@@ -201,7 +201,7 @@ watching_within s m there id result monitors =
     let same : (n : ℕ) → is_open (with_monitors m monitors s) n ≡ is_open s n = λ n. same_open s m monitors n in (
       record { schema = refl; moment = refl; next = refl; still_open = λ n open'. sym (same n) ∙ open' },
       λ stand.
-          (each-so (is_open s) (is_open (with_monitors m monitors s)) (λ n open'. same n ∙ open') s.queues stand, to_open s m (reply_tree id result ∷ []) there),
+          ((stand.0, each-so (is_open s) (is_open (with_monitors m monitors s)) (λ n open'. same n ∙ open') s.queues stand.1), to_open s m (reply_tree id result ∷ []) there),
     )
 
 -- the work on a message of an open session

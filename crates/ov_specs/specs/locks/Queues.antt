@@ -100,30 +100,34 @@ next_in session (first ∷ queue) = if first == session then first_of (without s
 abbrev pub unlock : List ℕ → ℕ → Queues → Queues
 unlock name session queues = with_queue name (without session (queue_of name queues)) queues
 
--- who becomes the owner of the lock by that
+-- who becomes the owner of the lock then
 abbrev pub next_owner : List ℕ → ℕ → Queues → Option ℕ
 next_owner name session queues = next_in session (queue_of name queues)
 
 -- ---- leaving all queues, as a closing session does
 
--- one queue before others, unless it is empty
-abbrev pub queue_before : List ℕ → List ℕ → Queues → Queues
-queue_before name [] queues = queues
-queue_before name (session ∷ queue) queues = (name, session ∷ queue) ∷ queues
-
-abbrev pub leave : ℕ → Queues → Queues
-leave session [] = []
-leave session (e ∷ queues) = if stands_in session e.1 then queue_before e.0 (without session e.1) (leave session queues) else e ∷ leave session queues
+-- the session unlocks the locks of these names, one by one
+abbrev pub unlock_all : ℕ → List (List ℕ) → Queues → Queues
+unlock_all session [] queues = queues
+unlock_all session (name ∷ names) queues = unlock_all session names (unlock name session queues)
 
 -- one that becomes the owner, with the lock's name, before others
 abbrev pub freed_before : Option ℕ → List ℕ → List (ℕ × List ℕ) → List (ℕ × List ℕ)
 freed_before None name others = others
 freed_before (Some session) name others = (session, name) ∷ others
 
--- those that become owners by that, each with the lock's name, in ascending order of the names
+-- the sessions that become owners as the locks of these names are unlocked, each with the lock's name
+abbrev pub freed_all : ℕ → List (List ℕ) → Queues → List (ℕ × List ℕ)
+freed_all session [] queues = []
+freed_all session (name ∷ names) queues = freed_before (next_owner name session queues) name (freed_all session names (unlock name session queues))
+
+-- a session that closes unlocks each lock that it asked for, in ascending order of the names
+abbrev pub leave : ℕ → Queues → Queues
+leave session queues = unlock_all session (names_of session queues) queues
+
+-- the sessions that become owners then, each with the lock's name
 abbrev pub freed : ℕ → Queues → List (ℕ × List ℕ)
-freed session [] = []
-freed session (e ∷ queues) = freed_before (next_in session e.1) e.0 (freed session queues)
+freed session queues = freed_all session (names_of session queues) queues
 
 -- ---- replies and notifications
 

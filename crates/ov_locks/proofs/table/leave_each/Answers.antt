@@ -1,8 +1,8 @@
 use Rattle.std.proofs.Common.{◌++◌, List, map, length, String, string_bytes, Global, sym, ap, subst, ◌∙◌, arith}
 use Rattle.std.proofs.lemmas.List.{append-nil}
 use Rattle.std.specs.Prelude.{option_to_list}
-use Rattle.ov_specs.specs.locks.Queues.{unlock, next_owner}
-use Rattle.ov_locks.specs.Freeing.{told, told_all, unlock_all, freed_all}
+use Rattle.ov_specs.specs.locks.Queues.{unlock, next_owner, unlock_all, freed_all}
+use Rattle.ov_locks.specs.Freeing.{told, told_all}
 use Rattle.ov_locks.proofs.Tables.{Unlocking, IsLeft, left-next}
 use Rattle.ov_locks.proofs.table.leave_each.Goals as goal
 
