@@ -3,13 +3,14 @@ use Rattle.std.proofs.Common.{◌≡◌, ◌≢◌, ℕ, ◌+◌, ◌≤◌, Lis
 use Rattle.std.specs.Prelude.{IsSome}
 use Rattle.std.proofs.lemmas.Bool.{false≢true}
 use Rattle.std.proofs.lemmas.List.{append-nil, length-append, take_all, take-append-drop}
+use Rattle.ov_specs.specs.wire.Beginning.{BeginsAs}
 use Rattle.ov_specs.specs.wire.Cut.{Cut, Damage, Stray, TooLong, cut, cut_from, with_messages, continue_cut, max_message}
 use Rattle.ov_specs.proofs.laws.Cuts.{cut_append}
 use Rattle.ov_cut.specs.declared.fault.CutFault.{CutFault}
 use Rattle.ov_cut.specs.declared.fault.CutFault.TheVariants as fault
 use Rattle.ov_cut.specs.Message.{Brings}
 use Rattle.ov_cut.specs.Piece.{TakesPiece, with_fault}
-use Rattle.ov_cut.specs.CutterState.{CutterState, StandsFor, IsBeginning, fault_of_damage, offset_in_64_bits}
+use Rattle.ov_cut.specs.CutterState.{CutterState, StandsFor, fault_of_damage, offset_in_64_bits}
 
 pub told_none : (d : Option Damage) → fault_of_damage d ≡ None → d ≡ None
 told_none None h = refl
@@ -37,15 +38,15 @@ damaged_stays stream piece d h = cut_append max_message 0 [] stream piece ∙ st
     stays ms r (Some e) k = refl
 
 -- the messages of a stream stay those that a longer one begins with
-pub messages_grow : (stream piece : List ℕ) → IsBeginning (cut stream).messages (cut (stream ++ piece)).messages
+pub messages_grow : (stream piece : List ℕ) → BeginsAs (cut stream).messages (cut (stream ++ piece)).messages
 unfolding cut
-messages_grow stream piece = subst (λ (k : Cut). IsBeginning (cut_from max_message 0 [] stream).messages k.messages) (sym (cut_append max_message 0 [] stream piece)) (grow (cut_from max_message 0 [] stream).messages (cut_from max_message 0 [] stream).rest (cut_from max_message 0 [] stream).damage)
+messages_grow stream piece = subst (λ (k : Cut). BeginsAs (cut_from max_message 0 [] stream).messages k.messages) (sym (cut_append max_message 0 [] stream piece)) (grow (cut_from max_message 0 [] stream).messages (cut_from max_message 0 [] stream).rest (cut_from max_message 0 [] stream).damage)
   where
-    grow : (ms : List (List ℕ)) (r : List ℕ) (e : Option Damage) → IsBeginning ms (continue_cut (record { messages = ms; rest = r; damage = e }) (λ rest. cut_from max_message (0 + length stream) rest piece)).messages
+    grow : (ms : List (List ℕ)) (r : List ℕ) (e : Option Damage) → BeginsAs ms (continue_cut (record { messages = ms; rest = r; damage = e }) (λ rest. cut_from max_message (0 + length stream) rest piece)).messages
     grow ms r None = ((cut_from max_message (0 + length stream) r piece).messages, refl)
     grow ms r (Some e) = ([], append-nil ms)
 
-pub begins_more : (a b c : List (List ℕ)) → IsBeginning a b → IsBeginning b c → IsBeginning a c
+pub begins_more : (a b c : List (List ℕ)) → BeginsAs a b → BeginsAs b c → BeginsAs a c
 begins_more a b c x y = (x.0 ++ y.0, sym (append_assoc a x.0 y.0) ∙ (ap (λ m. m ++ y.0) x.1 ∙ y.1))
 
 -- ---- a cutter with a fault
@@ -62,8 +63,8 @@ stays_same stream piece given c some s = at_damage (cut stream).damage refl
       place = λ none. absurd (let no : IsSome {T = CutFault} None = subst IsSome none some in false≢true no);
     }
 
-grows : (stream piece : List ℕ) (given : List (List ℕ)) (c : CutterState) → StandsFor stream given c → IsBeginning given (cut (stream ++ piece)).messages
-grows stream piece given c s = subst (λ (ms : List (List ℕ)). IsBeginning ms (cut (stream ++ piece)).messages) s.messages (messages_grow stream piece)
+grows : (stream piece : List ℕ) (given : List (List ℕ)) (c : CutterState) → StandsFor stream given c → BeginsAs given (cut (stream ++ piece)).messages
+grows stream piece given c s = subst (λ (ms : List (List ℕ)). BeginsAs ms (cut (stream ++ piece)).messages) s.messages (messages_grow stream piece)
 
 pub takes_none : (c : CutterState) (before : List (List ℕ)) → TakesPiece c before [] c before
 takes_none c before = record {
@@ -85,11 +86,11 @@ module _ (old mid new : CutterState) (before between after : List (List ℕ)) (p
   over_later : IsSome mid.fault → (after ≡ between) × (new ≡ mid)
   over_later some = two.over some
 
-  then_memory : (stream : List ℕ) (given : List (List ℕ)) → StandsFor stream (given ++ before) old → (f : Option CutFault) → mid.fault ≡ f → IsBeginning (given ++ after) (cut ((stream ++ p) ++ q)).messages
+  then_memory : (stream : List ℕ) (given : List (List ℕ)) → StandsFor stream (given ++ before) old → (f : Option CutFault) → mid.fault ≡ f → BeginsAs (given ++ after) (cut ((stream ++ p) ++ q)).messages
   then_memory stream given s None e = two.memory (stream ++ p) given (one.whole stream given s (λ m. cc))
   then_memory stream given s (Some why) e =
       let some : IsSome mid.fault = subst IsSome (sym e) refl in
-      subst (λ ms. IsBeginning (given ++ ms) (cut ((stream ++ p) ++ q)).messages) (sym (two.over some).0)
+      subst (λ ms. BeginsAs (given ++ ms) (cut ((stream ++ p) ++ q)).messages) (sym (two.over some).0)
       (begins_more (given ++ between) (cut (stream ++ p)).messages (cut ((stream ++ p) ++ q)).messages (one.memory stream given s) (messages_grow (stream ++ p) q))
 
   pub takes_then : TakesPiece old before (p ++ q) new after
@@ -97,7 +98,7 @@ module _ (old mid new : CutterState) (before between after : List (List ℕ)) (p
     whole = λ stream given s enough.
         let goes : mid.fault ≢ Some fault.Memory = λ e. (let some : IsSome mid.fault = subst IsSome (sym e) refl in enough (ap (λ (c : CutterState). c.fault) (two.over some).1 ∙ e)) in
         subst (λ t. StandsFor t (given ++ after) new) (append_assoc stream p q) (two.whole (stream ++ p) given (one.whole stream given s goes) enough);
-    memory = λ stream given s. subst (λ t. IsBeginning (given ++ after) (cut t).messages) (append_assoc stream p q) (then_memory stream given s mid.fault refl);
+    memory = λ stream given s. subst (λ t. BeginsAs (given ++ after) (cut t).messages) (append_assoc stream p q) (then_memory stream given s mid.fault refl);
     over = λ some.
         let o = one.over some in
         let t = two.over (subst (λ (c : CutterState). IsSome c.fault) (sym o.1) some) in

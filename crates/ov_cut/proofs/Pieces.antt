@@ -1,13 +1,14 @@
 -- What is read of texts one after another, and of a stream with a piece more.
 use Rattle.std.proofs.Common.{◌≡◌, ◌≢◌, ℕ, List, [], ◌∷◌, ◌++◌, refl, sym, ap, ◌∙◌, Bool, true, false, Option, Some, None, Err, is_some, append_assoc, append-nil}
 use Rattle.std.proofs.lemmas.Bool.{false≢true}
+use Rattle.ov_specs.specs.wire.Beginning.{BeginsAs}
 use Rattle.ov_specs.specs.wire.Cut.{Damage, cut}
 use Rattle.ov_specs.specs.wire.Message.{Message, Asked, asked, asked_of, with_asked, message_in}
 use Rattle.ov_cut.specs.declared.fault.CutFault.{CutFault}
 use Rattle.ov_cut.specs.declared.fault.CutFault.TheVariants as fault
 use Rattle.ov_cut.specs.declared.fault.StreamFault.{StreamFault}
 use Rattle.ov_cut.specs.declared.fault.StreamFault.TheVariants.{Damaged, Memory}
-use Rattle.ov_cut.specs.CutterState.{CutterState, StandsFor, IsBeginning, fault_of_damage}
+use Rattle.ov_cut.specs.CutterState.{CutterState, StandsFor, fault_of_damage}
 use Rattle.ov_cut.proofs.Feeding.{told_none}
 use Rattle.ov_cut.specs.Reading.{IsFed, AreRead, ReadsPiece, ReadsText, ReadsTexts, with_all, first_fault}
 
@@ -63,7 +64,7 @@ told_some : (d : Option Damage) (why : CutFault) → fault_of_damage d ≡ Some 
 told_some None why h = cc
 told_some (Some x) why h = refl
 
-module _ (stream piece : List ℕ) (texts : List (List ℕ)) (before after : CutterState) (f : IsFed stream before) (messages : List Message) (begins : IsBeginning (f.given ++ texts) (cut (stream ++ piece)).messages) where
+module _ (stream piece : List ℕ) (texts : List (List ℕ)) (before after : CutterState) (f : IsFed stream before) (messages : List Message) (begins : BeginsAs (f.given ++ texts) (cut (stream ++ piece)).messages) where
   -- what is asked with the piece, by the texts that it ends and others after them
   split : (others : List (List ℕ)) (e : Bool) → (f.given ++ texts) ++ others ≡ (cut (stream ++ piece)).messages → is_some (cut (stream ++ piece)).damage ≡ e
       → asked (stream ++ piece) ≡ with_all (asked stream).messages (asked_of (texts ++ others) e)

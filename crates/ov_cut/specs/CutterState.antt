@@ -1,5 +1,5 @@
 -- What a cutter stands for, and how it reports damage.
-use Rattle.std.specs.Prelude.{◌≡◌, ℕ, ◌+◌, ◌^◌, ◌-◌, ◌++◌, min, List, length, Option, Some, None}
+use Rattle.std.specs.Prelude.{◌≡◌, ℕ, ◌+◌, ◌^◌, ◌-◌, min, List, length, Option, Some, None}
 use Rattle.ov_specs.specs.wire.Cut.{cut, Damage, Stray, TooLong}
 use Rattle.ov_cut.specs.declared.fault.CutFault.{CutFault}
 use Rattle.ov_cut.specs.declared.fault.CutFault.TheVariants as fault
@@ -29,7 +29,3 @@ pub record StandsFor (stream : List ℕ) (given : List (List ℕ)) (cutter : Cut
   pub rest : (cut stream).rest ≡ cutter.rest
   pub fault : fault_of_damage (cut stream).damage ≡ cutter.fault
   pub place : cutter.fault ≡ None → (begins : ℕ) × (begins + length cutter.rest ≡ length stream) × (cutter.start ≡ offset_in_64_bits begins)
-
--- the list begins with some of its messages, and others may follow
-abbrev pub IsBeginning : List (List ℕ) → List (List ℕ) → Type 0
-IsBeginning some all = (others : List (List ℕ)) × (some ++ others ≡ all)

@@ -1,9 +1,10 @@
 -- What a piece, or the front of one, makes of a cutter and of the messages it has given; for private clauses.
 use Rattle.std.specs.Prelude.{◌≡◌, ◌≢◌, ℕ, ◌+◌, ◌<◌, ◌≤◌, ◌++◌, ◌∷◌, List, [], length, take, Some, IsSome, Result, Ok, Err}
+use Rattle.ov_specs.specs.wire.Beginning.{BeginsAs}
 use Rattle.ov_specs.specs.wire.Cut.{cut}
 use Rattle.ov_cut.specs.declared.fault.CutFault.{CutFault}
 use Rattle.ov_cut.specs.declared.fault.CutFault.TheVariants as fault
-use Rattle.ov_cut.specs.CutterState.{CutterState, StandsFor, IsBeginning, offset_in_64_bits}
+use Rattle.ov_cut.specs.CutterState.{CutterState, StandsFor, offset_in_64_bits}
 
 -- no more messages come, and nothing is kept of the one that has begun
 abbrev pub with_fault : CutterState → CutFault → CutterState
@@ -27,7 +28,7 @@ GivesMessage old message before (Err why) new after = (why ≡ fault.Memory) × 
 -- messages; if an allocation failed, some are missing at the end. With a fault it stays as it is, and gives no more.
 pub record TakesPiece (old : CutterState) (before : List (List ℕ)) (piece : List ℕ) (new : CutterState) (after : List (List ℕ)) : Type 0 where
   pub whole : (stream : List ℕ) (given : List (List ℕ)) → StandsFor stream (given ++ before) old → new.fault ≢ Some fault.Memory → StandsFor (stream ++ piece) (given ++ after) new
-  pub memory : (stream : List ℕ) (given : List (List ℕ)) → StandsFor stream (given ++ before) old → IsBeginning (given ++ after) (cut (stream ++ piece)).messages
+  pub memory : (stream : List ℕ) (given : List (List ℕ)) → StandsFor stream (given ++ before) old → BeginsAs (given ++ after) (cut (stream ++ piece)).messages
   pub over : IsSome old.fault → (after ≡ before) × (new ≡ old)
 
 -- this many bytes of the piece were taken, or all of it if there is a fault, which the cutter then is to have

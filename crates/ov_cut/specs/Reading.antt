@@ -1,5 +1,6 @@
 -- What is read of a stream that arrives in pieces.
 use Rattle.std.specs.Prelude.{◌≡◌, ℕ, ◌++◌, List, [], ◌∷◌, Bool, true, false, Option, Some, None, Result, Ok, Err}
+use Rattle.ov_specs.specs.wire.Beginning.{BeginsAs}
 use Rattle.ov_specs.specs.wire.Message.{Message, Asked, asked, asked_of, message_in}
 use Rattle.ov_cut.specs.declared.fault.CutFault.{CutFault}
 use Rattle.ov_cut.specs.declared.fault.CutFault.TheVariants as fault
@@ -18,7 +19,7 @@ pub record IsFed (stream : List ℕ) (cutter : CutterState) : Type 0 where
 abbrev pub AreRead : Option StreamFault → List Message → Asked → Type 0
 AreRead None messages a = a ≡ record { messages = messages; damaged = false }
 AreRead (Some Damaged) messages a = a ≡ record { messages = messages; damaged = true }
-AreRead (Some Memory) messages a = (others : List Message) × (messages ++ others ≡ a.messages)
+AreRead (Some Memory) messages a = BeginsAs messages a.messages
 
 -- These messages were read of a piece after this stream: with them, what the longer stream asks for was read. Without a fault
 -- the cutter was given that stream.

@@ -1,7 +1,8 @@
 ghost use Rattle.std.specs.Prelude.{◌≡◌, ◌≢◌, ◌↔◌, ◌+◌, ◌<◌, ◌≤◌, ℕ, List, [], ◌++◌, Some, None};
 ghost use Rattle.std.specs.Prelude.{IsSome, IsTrue, length, take, slice_get};
+ghost use Rattle.ov_specs.specs.wire.Beginning.{BeginsAs};
 ghost use Rattle.ov_specs.specs.wire.Cut.{cut};
-ghost use Rattle.ov_cut.specs.CutterState.{StandsFor, IsBeginning, offset_in_64_bits};
+ghost use Rattle.ov_cut.specs.CutterState.{StandsFor, offset_in_64_bits};
 ghost use Rattle.ov_cut.specs.Message.{IsBegunAs};
 ghost use Rattle.ov_cut.specs.Piece.{with_fault, advanced, KeepsMore, GivesMessage, TakesPiece};
 ghost use Rattle.ov_cut.specs.Piece.{TakesFront, LooksAtFront};
@@ -78,7 +79,7 @@ impl Cutter {
             → StandsFor (stream ++ piece.now) (given ++ result.messages.items) self.new }
         // If an allocation fails, some are missing at the end.
         ensures memory { (stream : List ℕ) (given : List (List ℕ)) → StandsFor stream given self.old
-            → IsBeginning (given ++ result.messages.items) (cut (stream ++ piece.now)).messages }
+            → BeginsAs (given ++ result.messages.items) (cut (stream ++ piece.now)).messages }
 
         ensures fault { result.fault ≡ self.new.fault }
 

@@ -1,10 +1,7 @@
 -- What is written of some bytes.
 use Rattle.std.specs.Prelude.{◌≡◌, ℕ, ◌++◌, List, Bool, true, false}
+use Rattle.ov_specs.specs.wire.Beginning.{BeginsAs}
 use Rattle.ov_ends.specs.Ends.{one_more}
-
--- the bytes are the first of those, and others may follow
-abbrev pub BeginsAs : List ℕ → List ℕ → Type 0
-BeginsAs some all = (others : List ℕ) × (some ++ others ≡ all)
 
 -- all of the bytes were written, or a beginning of them
 abbrev pub WritesOf : Bool → List ℕ → List ℕ → List ℕ → Type 0

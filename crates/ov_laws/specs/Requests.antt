@@ -1,5 +1,6 @@
 -- Which requests of a session are in a history, by what its stream asks for.
-use Rattle.std.specs.Prelude.{◌≡◌, ◌++◌, List, Option, Some, None}
+use Rattle.std.specs.Prelude.{◌≡◌, List, Option, Some, None}
+use Rattle.ov_specs.specs.wire.Beginning.{BeginsAs}
 use Rattle.ov_specs.specs.wire.Message.{Message}
 use Rattle.ov_specs.specs.machine.Machine.{Cause, InputEnded, ReadFault, WriteFault, Damaged, Overrun, Memory}
 
@@ -9,7 +10,7 @@ abbrev pub AreAskedFor : Option Cause → List Message → List Message → Type
 AreAskedFor None taken asked = taken ≡ asked
 AreAskedFor (Some InputEnded) taken asked = taken ≡ asked
 AreAskedFor (Some Damaged) taken asked = taken ≡ asked
-AreAskedFor (Some Memory) taken asked = (others : List Message) × (taken ++ others ≡ asked)
+AreAskedFor (Some Memory) taken asked = BeginsAs taken asked
 AreAskedFor (Some ReadFault) taken asked = ⊥
 AreAskedFor (Some WriteFault) taken asked = ⊥
 AreAskedFor (Some Overrun) taken asked = ⊥

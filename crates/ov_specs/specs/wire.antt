@@ -1,4 +1,5 @@
 pub mod Balance
+pub mod Beginning
 pub mod Cut
 pub mod Tree
 pub mod Message

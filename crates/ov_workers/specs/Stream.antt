@@ -1,12 +1,9 @@
 -- What a stream that came to an end asked for.
-use Rattle.std.specs.Prelude.{◌≡◌, ◌++◌, List, true, false}
+use Rattle.std.specs.Prelude.{◌≡◌, List, true, false}
+use Rattle.ov_specs.specs.wire.Beginning.{BeginsAs}
 use Rattle.ov_specs.specs.wire.Message.{Message, Asked}
 use Rattle.ov_workers.specs.declared.cause.ReadCause.{ReadCause}
 use Rattle.ov_workers.specs.declared.cause.ReadCause.TheVariants.{InputEnded, ReadFault, Damaged, Memory}
-
--- the messages are the first of those, and others may follow
-abbrev pub BeginsAs : List Message → List Message → Type 0
-BeginsAs some all = (others : List Message) × (some ++ others ≡ all)
 
 -- The messages are what the stream asked for, if it ended for this cause: all of it, and the stream is damaged after them if
 -- that is the cause, and otherwise is not. If an allocation failed, some may be missing at the end.
