@@ -5,7 +5,7 @@ use Rattle.std.proofs.lemmas.Bool.{and_parts, false≢true}
 use Rattle.std.proofs.lemmas.List.{take_more}
 use Rattle.std.proofs.lemmas.List.Folds.{list_any-append}
 use Rattle.std.proofs.lemmas.Option.{same_Some}
-use Rattle.std.specs.List.{list_any, list_all}
+use Rattle.std.specs.List.{list_any}
 use Rattle.std.specs.Cmp.Lexicographic.{slice_cmp, same_text}
 use Rattle.std.specs.FinMap.{is_sorted, entries, entries_sorted}
 use Rattle.std.specs.FinMap.Entries.{below_all}
@@ -13,9 +13,9 @@ use Rattle.std.specs.Ordering.{nat_cmp, eq_by_cmp, is_lt, is_eq, ordering_then}
 use Rattle.std.specs.Str.{bytes_eq}
 use Rattle.ov_specs.specs.rows.Database.{Row, Database, one_uuid, same_columns}
 use Rattle.ov_specs.specs.rows.Lines.{LineKey, line_cmp}
-use Rattle.ov_specs.specs.operations.Conditions.{Condition, entry_value, holds}
+use Rattle.ov_specs.specs.operations.Conditions.{Condition, entry_value}
 use Rattle.ov_specs.specs.operations.Select.{projection, without_repeats}
-use Rattle.ov_specs.specs.operations.MatchingRows.{is_matching, matching}
+use Rattle.ov_specs.specs.operations.MatchingRows.{meets_all, is_matching, matching}
 use Rattle.ov_specs.specs.values.Uuid.{Uuid as Identifier}
 use Rattle.ov_specs.specs.values.Value.{Atom, Uuid, Datum, datum_cmp, Atoms, Pairs}
 use Rattle.ov_specs.proofs.laws.LineKeys.{same_tied}
@@ -93,7 +93,7 @@ module _ (names : List (List ℕ)) (among : list_any (bytes_eq uuid_name) names 
     its es = map (projection names) (filter (is_matching table conditions) es)
 
     in_it : (r : LineKey × Row) → is_matching table conditions r ≡ true → r.0.0 ≡ table
-    in_it r h = same_text r.0.0 table (sym (and_parts (bytes_eq r.0.0 table) (list_all (holds (entry_value r)) conditions) h).0)
+    in_it r h = same_text r.0.0 table (sym (and_parts (bytes_eq r.0.0 table) (meets_all conditions r) h).0)
 
     none_same : (r : LineKey × Row) (es : List (LineKey × Row)) → r.0.0 ≡ table → T (below_all line_cmp r.0 es) → filter (λ other. not (same_columns (projection names r) other)) (its es) ≡ its es
     none_same r [] t h = refl

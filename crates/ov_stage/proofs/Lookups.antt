@@ -11,7 +11,7 @@ use Rattle.std.specs.Map.{lookup}
 use Rattle.std.specs.Ordering.{eq_by_cmp, is_eq}
 use Rattle.std.specs.Str.{bytes_eq}
 use Rattle.ov_specs.specs.operations.Conditions.{Condition}
-use Rattle.ov_specs.specs.operations.MatchingRows.{is_matching, matching}
+use Rattle.ov_specs.specs.operations.MatchingRows.{meets_all, is_matching, matching}
 use Rattle.ov_specs.specs.rows.Database.{Database, Row}
 use Rattle.ov_specs.specs.rows.Lines.{LineKey, line_cmp}
 use Rattle.ov_specs.specs.values.Uuid.{Uuid}
@@ -24,7 +24,7 @@ use Rattle.ov_db.specs.Changing.{Delta, applied}
 use Rattle.ov_db.proofs.Places.{get-applied, or_before}
 use Rattle.ov_rows.specs.Lending.{lent_row, lent_row_of}
 use Rattle.ov_rows.specs.declared.row_view.RowView.{RowView}
-use Rattle.ov_stage.specs.Staging.{AreOnlyOf, is_met, with_key}
+use Rattle.ov_stage.specs.Staging.{AreOnlyOf, with_key}
 
 abbrev Entries : Type 0
 Entries = List (LineKey × Row)
@@ -141,7 +141,7 @@ module _ (P : LineKey × Row → Bool) (k : LineKey) (only : (r : LineKey × Row
 
 -- if one row alone can meet all conditions, the rows that meet them are found at its key
 pub matching-at : (db : Database) (table : List ℕ) (id : Uuid) (conditions : List Condition) → AreOnlyOf id conditions
-    → filter (is_met conditions) (at_key (table, id) (get db (table, id))) ≡ matching db table conditions
+    → filter (meets_all conditions) (at_key (table, id) (get db (table, id))) ≡ matching db table conditions
 matching-at db table id conditions only =
     met (get db (table, id)) ∙ ap (λ o. filter P (at_key (table, id) o)) (get-entries db (table, id)) ∙ sym (filter-found P (table, id) one (entries db) (entries_sorted db))
   where
@@ -150,9 +150,9 @@ matching-at db table id conditions only =
 
     one : (r : LineKey × Row) → P r ≡ true → r.0 ≡ (table, id)
     one r h =
-        let parts = and_parts (bytes_eq r.0.0 table) (is_met conditions r) h in
+        let parts = and_parts (bytes_eq r.0.0 table) (meets_all conditions r) h in
         λ i. (same_text r.0.0 table (sym parts.0) i, only r parts.1 i)
 
-    met : (o : Option Row) → filter (is_met conditions) (at_key (table, id) o) ≡ filter P (at_key (table, id) o)
+    met : (o : Option Row) → filter (meets_all conditions) (at_key (table, id) o) ≡ filter P (at_key (table, id) o)
     met None = refl
-    met (Some row) = ap (λ b. cond (b && is_met conditions ((table, id), row)) (((table, id), row) ∷ []) []) (sym (text-same table))
+    met (Some row) = ap (λ b. cond (b && meets_all conditions ((table, id), row)) (((table, id), row) ∷ []) []) (sym (text-same table))

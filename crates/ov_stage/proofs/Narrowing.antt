@@ -9,7 +9,7 @@ use Rattle.std.specs.List.{flat_map}
 use Rattle.std.specs.Ordering.{eq_by_cmp, is_lt, is_eq}
 use Rattle.std.specs.Str.{bytes_eq}
 use Rattle.ov_specs.specs.operations.Conditions.{Condition}
-use Rattle.ov_specs.specs.operations.MatchingRows.{is_matching, matching}
+use Rattle.ov_specs.specs.operations.MatchingRows.{meets_all, is_matching, matching}
 use Rattle.ov_specs.specs.rows.Database.{Database, Row}
 use Rattle.ov_specs.specs.rows.Lines.{LineKey, line_cmp}
 use Rattle.ov_specs.specs.values.Uuid.{Uuid}
@@ -26,7 +26,7 @@ use Rattle.ov_rows.specs.Resident.{database_of}
 use Rattle.ov_rows.specs.declared.row_view.RowView.{RowView}
 use Rattle.ov_rows.proofs.Nesting.{within}
 use Rattle.ov_stage.specs.Asked.{Ascend, AreIdsOf, changes_of, has_id, rows_after, rows_of_ids}
-use Rattle.ov_stage.specs.Staging.{is_met, with_key}
+use Rattle.ov_stage.specs.Staging.{with_key}
 use Rattle.ov_stage.proofs.Lookups.{at_key, get-of_table, get-no_table}
 use Rattle.ov_stage.proofs.Merging.{get-after, keyed}
 
@@ -156,12 +156,12 @@ module _ (db : Database) (table : List ℕ) where
 -- ---- those that meet conditions
 
 -- each row of the table's meets them, or none does
-pub met-of_table : (table : List ℕ) (conditions : List Condition) (rows : List RowView) → filter (is_met conditions) (map (lent_row_of table) rows) ≡ filter (is_matching table conditions) (map (lent_row_of table) rows)
+pub met-of_table : (table : List ℕ) (conditions : List Condition) (rows : List RowView) → filter (meets_all conditions) (map (lent_row_of table) rows) ≡ filter (is_matching table conditions) (map (lent_row_of table) rows)
 met-of_table table conditions [] = refl
 met-of_table table conditions (r ∷ rows) =
-    let met = filter (is_met conditions) (map (lent_row_of table) rows) in
-    ap (λ b. cond (b && is_met conditions (lent_row_of table r)) (lent_row_of table r ∷ met) met) (sym (text-same table))
-    ∙ ap (λ (rest : Entries). cond (bytes_eq table table && is_met conditions (lent_row_of table r)) (lent_row_of table r ∷ rest) rest) (met-of_table table conditions rows)
+    let met = filter (meets_all conditions) (map (lent_row_of table) rows) in
+    ap (λ b. cond (b && meets_all conditions (lent_row_of table r)) (lent_row_of table r ∷ met) met) (sym (text-same table))
+    ∙ ap (λ (rest : Entries). cond (bytes_eq table table && meets_all conditions (lent_row_of table r)) (lent_row_of table r ∷ rest) rest) (met-of_table table conditions rows)
 
 module _ (delta : Delta) (db : Database) (table : List ℕ) (conditions : List Condition) (ids : List Uuid) (h : Ascend ids) (all : AreIdsOf conditions db table ids) where
   abbrev P : LineKey × Row → Bool
@@ -173,7 +173,7 @@ module _ (delta : Delta) (db : Database) (table : List ℕ) (conditions : List C
   -- no row of another table meets them
   passing-apart : (q : LineKey) (o : Option Row) → bytes_eq q.0 table ≡ false → passing P q o ≡ None
   passing-apart q None apart = refl
-  passing-apart q (Some row) apart = ap (λ b. cond (b && is_met conditions (q, row)) (Some row) None) apart
+  passing-apart q (Some row) apart = ap (λ b. cond (b && meets_all conditions (q, row)) (Some row) None) apart
 
   -- nor one of another identifier
   passing-beside : (id : Uuid) (o : Option Row) → get db (table, id) ≡ o → has_id ids id ≡ false → passing P (table, id) o ≡ None
@@ -182,7 +182,7 @@ module _ (delta : Delta) (db : Database) (table : List ℕ) (conditions : List C
     where
       by : (b : Bool) → P ((table, id), row) ≡ b → cond b (Some row) None ≡ None
       by false fails = refl
-      by true passes = absurd (false≢true (sym beside ∙ all id row is (and_parts (bytes_eq table table) (is_met conditions ((table, id), row)) passes).1))
+      by true passes = absurd (false≢true (sym beside ∙ all id row is (and_parts (bytes_eq table table) (meets_all conditions ((table, id), row)) passes).1))
 
   passing-before : (id : Uuid) → passing P (table, id) (get after (table, id)) ≡ passing P (table, id) (get db (table, id))
   passing-before id = ap (passing P (table, id)) (get-rows db table id ids h) ∙ by (has_id ids id) refl

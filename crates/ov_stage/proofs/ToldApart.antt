@@ -8,6 +8,7 @@ use Rattle.std.specs.List.{list_any}
 use Rattle.std.specs.Str.{bytes_eq}
 use Rattle.ov_specs.specs.integrity.Limits.{are_alike, has_duplicates, has_two_alike, is_same_value, rows_of}
 use Rattle.ov_specs.specs.operations.Conditions.{entry_value}
+use Rattle.ov_specs.specs.operations.MatchingRows.{meets_all}
 use Rattle.ov_specs.specs.operations.Select.{projection, without_repeats}
 use Rattle.ov_specs.specs.rows.Database.{Database, Row, one_uuid, same_columns}
 use Rattle.ov_specs.specs.rows.Lines.{LineKey}
@@ -20,7 +21,6 @@ use Rattle.ov_db.proofs.Same.{text-same}
 use Rattle.ov_index.specs.Changing.{are_any_alike}
 use Rattle.ov_index.proofs.MapEntries.{contradicts, entry_is_any, some_and_is}
 use Rattle.ov_stage.specs.Apart.{AreToldApart, has_any_index, has_column, has_index}
-use Rattle.ov_stage.specs.Staging.{is_met}
 use Rattle.ov_stage.proofs.Meeting.{matching-of_table}
 use Rattle.ov_projection.proofs.Repeats.{Shown}
 use Rattle.ov_projection.proofs.SameRows.{same-is}
@@ -144,7 +144,7 @@ any_index names chosen es (index ∷ indexes) shown apart =
 pub told_by_index : (schema : Schema) (rows : Database) (table : List ℕ) (names : List (List ℕ)) → are_any_alike schema rows ≡ false → has_any_index schema table names ≡ true → AreToldApart rows table names
 told_by_index schema rows table names apart shown conditions =
     subst (λ (es : List (LineKey × Row)). without_repeats (map (projection names) es) ≡ map (projection names) es) (sym (matching-of_table table conditions (entries rows)))
-    (any_index names (is_met conditions) (rows_of table rows) found.0.indexes found.2 (none (has_duplicates rows (table, found.0)) refl))
+    (any_index names (meets_all conditions) (rows_of table rows) found.0.indexes found.2 (none (has_duplicates rows (table, found.0)) refl))
   where
     found : (t : Table) × (get schema.tables table ≡ Some t) × (list_any (has_index names) t.indexes ≡ true)
     found = some_and_is (λ t. list_any (has_index names) t.indexes) (get schema.tables table) shown

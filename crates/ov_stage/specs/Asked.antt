@@ -11,24 +11,25 @@ use Rattle.ov_index.specs.Indexing.{AreIndexesOf, marked}
 use Rattle.ov_rows.specs.Nested.{id_cmp}
 use Rattle.ov_rows.specs.Resident.{database_of}
 use Rattle.ov_specs.specs.operations.Conditions.{Condition}
+use Rattle.ov_specs.specs.operations.MatchingRows.{meets_all}
 use Rattle.ov_specs.specs.rows.Database.{Database, Row}
 use Rattle.ov_specs.specs.rows.Lines.{LineKey}
 use Rattle.ov_specs.specs.schema.Schema.{is_some_and}
 use Rattle.ov_specs.specs.schema.SchemaTypes.{Table}
 use Rattle.ov_specs.specs.values.Uuid.{Uuid}
 use Rattle.ov_specs.specs.values.Value.{Datum}
-use Rattle.ov_stage.specs.Staging.{is_met, with_key}
+use Rattle.ov_stage.specs.Staging.{with_key}
 use Rattle.ov_stage.specs.declared.indexed.Indexed.{Indexed}
 
 -- ---- what every row has that meets all conditions
 
 -- it has this value in the column of this name
 abbrev pub IsValueOf : List Condition → List ℕ → Datum → Type 0
-IsValueOf conditions column value = (row : LineKey × Row) → is_met conditions row ≡ true → get row.1.columns column ≡ Some value
+IsValueOf conditions column value = (row : LineKey × Row) → meets_all conditions row ≡ true → get row.1.columns column ≡ Some value
 
 -- it has these values in the columns of the index
 abbrev pub AreValuesOf : List Condition → List (List ℕ) → List Datum → Type 0
-AreValuesOf conditions index values = (row : LineKey × Row) → is_met conditions row ≡ true → values_in index row.1.columns ≡ values
+AreValuesOf conditions index values = (row : LineKey × Row) → meets_all conditions row ≡ true → values_in index row.1.columns ≡ values
 
 -- the row of the table, which has this name, is at this key
 abbrev pub stands_in : List ℕ → Table → Row → IndexKey → Bool
@@ -36,7 +37,7 @@ stands_in name table row key = is_some_and (λ index. same_index_key (key_at nam
 
 -- the key is one of the table of this name, and every row that meets all conditions is at it
 abbrev pub IsKeyOf : List Condition → List ℕ → Table → IndexKey → Type 0
-IsKeyOf conditions name table key = (key.table ≡ name) × ((row : LineKey × Row) → is_met conditions row ≡ true → stands_in name table row.1 key ≡ true)
+IsKeyOf conditions name table key = (key.table ≡ name) × ((row : LineKey × Row) → meets_all conditions row ≡ true → stands_in name table row.1 key ≡ true)
 
 -- ---- rows that include them
 
@@ -50,7 +51,7 @@ has_id ids id = list_any (eq_by_cmp id_cmp id) ids
 
 -- every row of the table of this name that meets all conditions has one of these identifiers
 abbrev pub AreIdsOf : List Condition → Database → List ℕ → List Uuid → Type 0
-AreIdsOf conditions rows table ids = (id : Uuid) (row : Row) → get rows (table, id) ≡ Some row → is_met conditions ((table, id), row) ≡ true → has_id ids id ≡ true
+AreIdsOf conditions rows table ids = (id : Uuid) (row : Row) → get rows (table, id) ≡ Some row → meets_all conditions ((table, id), row) ≡ true → has_id ids id ≡ true
 
 -- the rows of these identifiers that exist in the table of this name
 abbrev pub rows_of_ids : Database → List ℕ → List Uuid → List (LineKey × Row)

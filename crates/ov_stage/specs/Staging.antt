@@ -5,11 +5,12 @@ use Rattle.std.specs.Ordering.{eq_by_cmp}
 use Rattle.std.specs.Coded.{Coded, code_by, coded×}
 use Rattle.std.specs.FinMap.{get, entries, put}
 use Rattle.std.specs.FinMap.Entries.{where_key}
-use Rattle.std.specs.List.{list_all}
 use Rattle.ov_db.specs.Changing.{Delta}
+use Rattle.ov_rows.specs.Lending.{lent_row_of}
 use Rattle.ov_rows.specs.Resident.{database_code}
 use Rattle.ov_rows.specs.declared.row_view.RowView.{RowView}
-use Rattle.ov_specs.specs.operations.Conditions.{Condition, column_value, holds, entry_value}
+use Rattle.ov_specs.specs.operations.Conditions.{Condition}
+use Rattle.ov_specs.specs.operations.MatchingRows.{meets_all}
 use Rattle.ov_specs.specs.rows.Database.{Columns, Database, Row, same_columns}
 use Rattle.ov_specs.specs.rows.Lines.{LineKey}
 use Rattle.ov_specs.specs.values.Uuid.{Uuid}
@@ -40,17 +41,13 @@ with_key key found = option_map (λ x. (key, x)) found
 
 -- ---- the rows that meet conditions
 
--- a row that meets all conditions
-abbrev pub is_met : List Condition → LineKey × Row → Bool
-is_met conditions r = list_all (holds (entry_value r)) conditions
-
 -- every row that meets all conditions has this identifier
 abbrev pub AreOnlyOf : Uuid → List Condition → Type 0
-AreOnlyOf id conditions = (row : LineKey × Row) → is_met conditions row ≡ true → row.0.1 ≡ id
+AreOnlyOf id conditions = (row : LineKey × Row) → meets_all conditions row ≡ true → row.0.1 ≡ id
 
--- a borrowed row that meets all conditions
+-- a borrowed row meets all conditions, whatever its table
 abbrev pub meets : List Condition → RowView → Bool
-meets conditions r = list_all (holds (column_value r.id.now r.row.now.version r.row.now.columns)) conditions
+meets conditions r = meets_all conditions (lent_row_of [] r)
 
 -- ---- changes made in an ascending list of rows, by keys of any kind
 

@@ -7,13 +7,13 @@ ghost use Rattle.ov_index.specs.Changing.{are_any_alike};
 ghost use Rattle.ov_index.specs.Indexing.{AreIndexesOf};
 ghost use Rattle.ov_rows.specs.Lending.{lent_row_of};
 ghost use Rattle.ov_specs.specs.operations.Conditions as conditions;
-ghost use Rattle.ov_specs.specs.operations.MatchingRows.{matching};
+ghost use Rattle.ov_specs.specs.operations.MatchingRows.{meets_all, matching};
 ghost use Rattle.ov_specs.specs.rows.Database.{same_database};
 ghost use Rattle.ov_specs.specs.rows.Version.{row_now};
 ghost use Rattle.std.specs.Str.{bytes_eq};
 ghost use Rattle.ov_stage.specs.Apart.{AreToldApart};
 ghost use Rattle.ov_stage.specs.Asked.{Ascend, AreIdsOf};
-ghost use Rattle.ov_stage.specs.Staging.{Differs, is_met, with_key};
+ghost use Rattle.ov_stage.specs.Staging.{Differs, with_key};
 
 use crate::conditions::{meeting, only_id};
 use crate::former::is_former;
@@ -188,7 +188,7 @@ impl<'a> Stage<'a> {
         requires { Ascend ids.now }
         ensures { (asked : List conditions.Condition)
             → AreIdsOf asked self.now.before table.now ids.now
-            → IfOk result (λ rows. filter (is_met asked) (map (lent_row_of table.now) rows.items)
+            → IfOk result (λ rows. filter (meets_all asked) (map (lent_row_of table.now) rows.items)
             ≡ matching self.now.now table.now asked) }
     {
         let before = rows_of_ids(alloc, self.rows, table, ids)?;
@@ -216,7 +216,7 @@ impl<'a> Stage<'a> {
         conditions: &[Condition],
     ) -> Result<Vec<RowView<'_>>, AllocError>
         ensures { IfOk result
-            (λ rows. filter (is_met conditions.now) (map (lent_row_of table.now) rows.items)
+            (λ rows. filter (meets_all conditions.now) (map (lent_row_of table.now) rows.items)
             ≡ matching self.now.now table.now conditions.now) }
     {
         if let Some(id) = only_id(conditions) {

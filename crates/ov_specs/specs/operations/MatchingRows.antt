@@ -31,9 +31,13 @@ on_conditions c table d next =
 
 -- ---- the rows
 
--- a row of the table that meets all conditions; without a condition each row of it does (RFC 7047, 5.2.2)
+-- the row meets all conditions; without a condition each row does (RFC 7047, 5.2.2)
+abbrev pub meets_all : List Condition → LineKey × Row → Bool
+meets_all conditions r = list_all (holds (entry_value r)) conditions
+
+-- it is one of the table, and meets all conditions
 abbrev pub is_matching : List ℕ → List Condition → LineKey × Row → Bool
-is_matching table conditions r = bytes_eq r.0.0 table && list_all (holds (entry_value r)) conditions
+is_matching table conditions r = bytes_eq r.0.0 table && meets_all conditions r
 
 -- these rows, in ascending order of their identifiers
 abbrev pub matching : Database → List ℕ → List Condition → List (LineKey × Row)
