@@ -1,4 +1,4 @@
-ghost use Rattle.std.specs.Prelude.{◌≡◌, flat_map};
+ghost use Rattle.std.specs.Prelude.{flat_map};
 ghost use Rattle.ov_specs.specs.values.Value as value;
 ghost use Rattle.ov_specs.specs.values.Writing.{atom_tree, pair_tree, set_tree, map_tree, tree};
 ghost use Rattle.ov_atoms.specs.Tokens.{Puts, tokens_of};

@@ -1,4 +1,4 @@
-ghost use Rattle.std.specs.Prelude.{◌≡◌, ◌<◌, ◌≤◌, ◌↔◌, length, IsTrue};
+ghost use Rattle.std.specs.Prelude.{◌≡◌, ◌<◌, ◌≤◌, ◌↔◌, IsTrue};
 ghost use Rattle.ov_specs.specs.wire.Cut.{max_message};
 ghost use Rattle.ov_cut.specs.Message.{Finds, LooksForEnd, IsBegunAs, mode_after};
 

@@ -1,4 +1,3 @@
-ghost use Rattle.std.specs.Prelude.{◌≡◌};
 ghost use Rattle.ov_ends.specs.Ends.{GivesWritten};
 ghost use Rattle.ov_ends.specs.Writing.{WritesOf, CountsFailures};
 

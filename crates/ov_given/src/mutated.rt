@@ -1,4 +1,3 @@
-ghost use Rattle.std.specs.Prelude.{◌≡◌};
 ghost use Rattle.serde_json.specs.View.{view, items_view};
 ghost use Rattle.ov_specs.specs.operations.Mutate as mutate;
 ghost use Rattle.ov_specs.specs.operations.Mutators.{mutation_error, mutation_read};

@@ -1,11 +1,10 @@
-ghost use Rattle.std.specs.Prelude.{◌≡◌, ℕ, List, IfOk, map, option_map, option_and_then};
+ghost use Rattle.std.specs.Prelude.{◌≡◌, IfOk, map, option_map, option_and_then};
 ghost use Rattle.std.specs.FinMap.{get};
 ghost use Rattle.std.specs.Option.{option_copied};
 ghost use Rattle.serde_json.specs.Find.{as_number};
 ghost use Rattle.serde_json.specs.View.{view, items_view, members_view};
 ghost use Rattle.ov_specs.specs.operations.Wait as wait;
-ghost use Rattle.ov_specs.specs.schema.SchemaTypes.{kinds_of};
-ghost use Rattle.ov_specs.specs.values.Reading.{integer_read, reads};
+ghost use Rattle.ov_specs.specs.values.Reading.{integer_read};
 ghost use Rattle.ov_projection.specs.Errors.{IsOpResult};
 
 use ov_atoms::{AtomFault, Datum, Names, read_datum};

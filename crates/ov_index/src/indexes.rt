@@ -14,7 +14,6 @@ use ov_schema::Schema;
 use std::alloc::{AllocError, Global};
 use std::collections::BTreeMap;
 use std::marker::Model;
-use uuid::Uuid;
 
 /// The rows of a database by their values in the indexes of their tables (RFC 7047, 3.2, `<table-schema>`, indexes). If a
 /// database is within its limits, each key has one row; during a commit it may have more.

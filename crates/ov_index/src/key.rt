@@ -1,5 +1,5 @@
 ghost use Rattle.std.specs.Prelude.{◌≡◌, IfOk};
-ghost use Rattle.ov_index.specs.IndexKeys.{key_at, values_in};
+ghost use Rattle.ov_index.specs.IndexKeys.{key_at};
 
 use crate::key_values::KeyValues;
 use ov_atoms::Datum;

@@ -1,4 +1,3 @@
-ghost use Rattle.std.specs.Prelude.{◌≡◌};
 
 use ov_base::Text;
 use std::hash::{Hash, Hasher};

@@ -1,5 +1,5 @@
-ghost use Rattle.std.specs.Prelude.{◌≡◌, ◌==◌, ◌+◌, ◌-◌, ◌<◌, ◌≤◌, ◌++◌, ℕ, [], length, map, not};
-ghost use Rattle.std.specs.Prelude.{is_some, true, false, string_bytes, option_map, option_to_list};
+ghost use Rattle.std.specs.Prelude.{◌≡◌, ◌==◌, ◌+◌, ◌-◌, ◌<◌, ◌≤◌, ◌++◌, ℕ, [], length, not};
+ghost use Rattle.std.specs.Prelude.{is_some, true, option_map, option_to_list};
 ghost use Rattle.std.specs.Prelude.{if◌then◌else◌, Ok, Err, IfOk, IfNone, OnOk, OnErr};
 ghost use Rattle.std.specs.BTreeMap.{is_at};
 ghost use Rattle.std.specs.BTreeSet.{insert_key};

@@ -1,4 +1,3 @@
-ghost use Rattle.std.specs.Prelude.{◌≡◌};
 ghost use Rattle.ov_specs.specs.operations.Mutators.{fitting, mutated};
 ghost use Rattle.ov_atoms.specs.Views.{atoms_view};
 ghost use Rattle.ov_mutate.specs.Computing.{distinct, set_computed};

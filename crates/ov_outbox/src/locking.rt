@@ -1,10 +1,10 @@
-ghost use Rattle.std.specs.Prelude.{◌≡◌, ◌<◌, ◌≤◌, ◌+◌, ℕ, List, [], length, map, not, is_some};
-ghost use Rattle.std.specs.Prelude.{Option, IfOk, IfSome, MatchBool, option_map, option_to_list};
+ghost use Rattle.std.specs.Prelude.{◌≡◌, ◌<◌, ◌≤◌, ℕ, []};
+ghost use Rattle.std.specs.Prelude.{Option, IfOk, IfSome, MatchBool, option_to_list};
 ghost use Rattle.serde_json.specs.Data.{object, no_members};
 ghost use Rattle.serde_json.specs.View.{view};
 ghost use Rattle.ov_specs.specs.locks.Queues.{DoQueuesAscend, Lock, Steal, Unlock, lock_result};
 ghost use Rattle.ov_specs.specs.locks.Queues.{owns, leave, told_of_leaving};
-ghost use Rattle.ov_specs.specs.machine.Machine.{Sent, told};
+ghost use Rattle.ov_specs.specs.machine.Machine.{told};
 ghost use Rattle.ov_specs.specs.wire.Frame.{frame, reply_tree};
 ghost use Rattle.ov_outbox.specs.Asking.{IsAsked, parts};
 ghost use Rattle.ov_outbox.specs.Frames.{places_for, count_of, PostsAll, PostsSent, HasSameFrames};

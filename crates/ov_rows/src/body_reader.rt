@@ -3,14 +3,14 @@ ghost use Rattle.std.specs.FinMap.{keys};
 ghost use Rattle.serde_json.specs.Written.{compact_text};
 ghost use Rattle.ov_specs.specs.wire.Message.{tree_of};
 ghost use Rattle.ov_rows.specs.Body.{body_of, AreOfKinds};
-ghost use Rattle.ov_rows.specs.Named.{columns_at, DoAscend};
+ghost use Rattle.ov_rows.specs.Named.{DoAscend};
 
 use crate::columns::Columns;
 use crate::guess::guess_values;
 use json::{Reader, Scratch};
 use ov_atoms::{AtomFault, Datum};
 use ov_base::ColumnNames;
-use std::alloc::{AllocError, Global};
+use std::alloc::Global;
 
 /// Reads the columns of rows from the bodies of their lines. Each read reuses the memory of the one before.
 #[derive(Drop)]

@@ -1,4 +1,4 @@
-ghost use Rattle.std.specs.Prelude.{◌≡◌, ◌↔◌, List, ℕ, IfOk, IsTrue, [], ◌∷◌, if◌then◌else◌};
+ghost use Rattle.std.specs.Prelude.{◌≡◌, ◌↔◌, IfOk, IsTrue, [], ◌∷◌, if◌then◌else◌};
 ghost use Rattle.serde_json.specs.Data.{Data, Items, no_items, array};
 ghost use Rattle.ov_specs.specs.wire.Frame.{frame, reply_tree};
 ghost use Rattle.ov_specs.specs.operations.Transaction.{and_item};

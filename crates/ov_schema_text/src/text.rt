@@ -1,4 +1,4 @@
-ghost use Rattle.std.specs.Prelude.{◌≡◌, IfOk, IfErr, IfSome};
+ghost use Rattle.std.specs.Prelude.{IfOk, IfErr, IfSome};
 ghost use Rattle.ov_schema_text.specs.Texts.{IsSchemaText, RefusesText, RefusesFile};
 
 use crate::file_fault::SchemaFileFault;
