@@ -93,7 +93,8 @@ impl PartialOrd for Atom {
 
     ghost partial_cmp = { λ a b. Some (on atom_view atom_cmp a b) };
 
-    ghost laws = { partial_order_from_agreeing_total (on atom_view atom_cmp) (on_total atom_view atom_cmp_total) (λ a b. refl) (λ a b. refl) };
+    ghost laws = { partial_order_from_agreeing_total (on atom_view atom_cmp)
+        (on_total atom_view atom_cmp_total) (λ a b. refl) (λ a b. refl) };
 
     fn partial_cmp(&self, other: &Atom) -> Option<Ordering> {
         Some(self.cmp(other))

@@ -9,11 +9,11 @@ abbrev pub from_key : {A : Type 0} → (A → Atom) → Atom → List A → List
 from_key key k [] = []
 from_key key k (x ∷ xs) = if is_lt (atom_cmp (key x) k) then from_key key k xs else x ∷ xs
 
--- atoms, from this one on
+-- the atoms that are not less than this one, where they ascend
 abbrev pub atoms_from : Atom → List Atom → List Atom
 atoms_from = from_key (λ a. a)
 
--- pairs, from this key on
+-- the pairs whose keys are not less than this one, where they ascend
 abbrev pub pairs_from : Atom → List (Atom × Atom) → List (Atom × Atom)
 pairs_from = from_key (λ p. p.0)
 

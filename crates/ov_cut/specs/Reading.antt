@@ -14,8 +14,8 @@ pub record IsFed (stream : List ℕ) (cutter : CutterState) : Type 0 where
   pub stands : StandsFor stream given cutter
   pub whole : (asked stream).damaged ≡ false
 
--- The messages are those that a stream asks for, and it is not damaged, or damaged after them; if an allocation failed, some may
--- be missing at the end.
+-- The messages are those that a stream asks for, and it is not damaged, or damaged after them; if an allocation failed, some
+-- may be missing at the end.
 abbrev pub AreRead : Option StreamFault → List Message → Asked → Type 0
 AreRead None messages a = a ≡ record { messages = messages; damaged = false }
 AreRead (Some Damaged) messages a = a ≡ record { messages = messages; damaged = true }

@@ -44,7 +44,7 @@ pub(crate) fn cells_of(alloc: Global, columns: &Columns) -> Result<Vec<Cell>, Al
     Ok(cells)
 }
 
-/// Whether these are the cells of a row with these columns, in ascending order of the columns' names. Each cell is written once.
+/// Whether these are the cells of a row with these columns, in ascending order of the columns' names, each written once.
 pub(crate) fn are_cells_of(
     alloc: Global,
     columns: &Columns,

@@ -27,8 +27,8 @@ use std::alloc::Global;
 use uuid::Uuid;
 
 /// Loads what a keeper holds, and returns its rows with their links and indexes: as they are if the text is the schema's, else
-/// converted in a commit of the version, if there is one. The keeper then holds these rows in format 2: if it does not yet, they
-/// are written anew.
+/// converted in a commit of the version, if there is one. The keeper then holds these rows in format 2; if it held them in
+/// another, they are written anew.
 pub(crate) fn open_whole<K: Keeper>(
     alloc: Global,
     keeper: &mut K,

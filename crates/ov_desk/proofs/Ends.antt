@@ -14,7 +14,7 @@ use Rattle.ov_desk.specs.Ending.{CourseEnds, LinkEnds}
 use Rattle.ov_desk.specs.Ends.{EndsLane, EndsSeat, AllEnd}
 use Rattle.ov_desk.proofs.Endings.{link_ends}
 
--- the sessions at the places have the serials from this one on
+-- the sessions at the places have consecutive serials; this is the first
 pub CountUp : ℕ → List (Option Lane) → Type 0
 CountUp serial ls = (i : ℕ) (l : Lane) → IsAt ls i l → l.session.serial ≡ serial + i
 

@@ -1,4 +1,4 @@
--- What a reader brought, what a writer was sent, and what became of their session, once both ends of each ring are in one place.
+-- What a reader brought, what a writer was sent, and what became of their session, once both ends of each ring are together.
 use Rattle.std.proofs.Common.{◌≡◌, ◌≢◌, ℕ, List, [], ◌∷◌, ◌++◌, length, refl, sym, ap, subst, ◌∙◌, append_assoc, append-nil, arith, Bool, true, false, Option, Some}
 use Rattle.std.specs.Prelude.{not, unwrap_or, MatchBool}
 use Rattle.std.proofs.lemmas.Bool.{false≢true}

@@ -27,8 +27,8 @@ pub record OpensOne {K D : Type 0} (old new : Desk K D) : Type 0 where
 abbrev pub IsSameDesk : {K D : Type 0} → Desk K D → Desk K D → Type 0
 IsSameDesk old new = (new.core ≡ old.core) × (new.lanes.items ≡ old.lanes.items)
 
--- When a link for which there is a free place is refused. If an allocation fails or a thread can't be started, there is no cause
--- that a contract could name.
+-- When a link for which there is a free place is refused. If an allocation fails or a thread can't be started, there is no
+-- cause that a contract could name.
 abbrev pub RefusesLink : {K D : Type 0} → ℕ → ℕ → Desk K D → AdmitFault → Type 0
 RefusesLink bells parts old fault.Bell = bells < length old.lanes.items
 RefusesLink bells parts old fault.Part = parts ≡ 0

@@ -20,7 +20,7 @@ EndsLane ends k l e =
 abbrev pub EndsSeat : {S W : Type 0} → (S → W → LinkState) → Link S W → Option Lane → End S W → Type 0
 EndsSeat ends k p e = (l : Lane) × (p ≡ Some l) × EndsLane ends k l e
 
--- Each link was served to its end, in order, with serials from this one on.
+-- Each link was served to its end, in order, with consecutive serials; this is the first.
 abbrev pub AllEnd : {K D S W : Type 0} {first core : CoreState K D} → (S → W → LinkState) → Since first core → ℕ → List (Link S W) → List (End S W) → Type 0
 AllEnd ends since serial [] [] = Unit {0}
 AllEnd ends since serial [] (e ∷ remains) = ⊥

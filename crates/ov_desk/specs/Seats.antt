@@ -47,7 +47,7 @@ pub record IsStarted {S W L : Type 0} (keeps : Bool) (serial : ℕ) (s : Started
   pub fresh : (received s.inbound ≡ []) × (sent s.outbound ≡ []) × (known_free s.outbound ≡ 1025)
   pub await : AwaitLink s.workers
 
--- those of sessions with the serials from this one on
+-- those of sessions with consecutive serials; this is the first
 abbrev pub AreStarted : {S W L : Type 0} → Bool → ℕ → List (Started S W L) → Type 0
 AreStarted keeps serial [] = Unit {0}
 AreStarted keeps serial (s ∷ started) = IsStarted keeps serial s × AreStarted keeps (serial + 1) started

@@ -39,8 +39,8 @@ RefusesLinks count old fault.Memory new = (has_places count old.state ≡ true) 
 
 -- ---- a lobby
 
--- Whatever history the core had followed, it follows a longer one, by this clock. Every session that is open was open before, and
--- sessions from before are not served.
+-- The core follows a history that continues the one it had followed, by this clock. Every session that is open was open
+-- before, and sessions from before are not served.
 pub record ServesLobby {K D C : Type 0} (tells : C → ℕ → C → Type 0) (old new : Timed K D C) : Type 0 where
   pub since : Since old.core new.core
   pub closed : (n : ℕ) → is_open old.core.state n ≡ false → is_open new.core.state n ≡ false

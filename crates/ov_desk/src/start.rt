@@ -26,8 +26,8 @@ pub(crate) struct Started<S: Source, W: Sink, L: Ledger> {
     pub workers: Workers<S, W, L>,
 }
 
-/// Starts the workers of a session of this serial. They give back the ends of their link if it `keeps`, and drop them otherwise.
-/// Refused as `Memory` or as `Threads`; then no thread is left.
+/// Starts the workers of a session of this serial. They give back the ends of their link if it `keeps`, and drop them
+/// otherwise. Refused as `Memory` or as `Threads`; then no thread is left.
 pub(crate) fn start<'s, E, R, L, G, S, W>(
     common: Common<'s, R, L, G>,
     scope: &Scope<'s, E>,

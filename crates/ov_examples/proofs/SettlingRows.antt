@@ -88,7 +88,7 @@ closing_drops_what_waits = refl
 
 -- ---- the greatest number that may wait
 
--- those with the ids from this one on
+-- this many waiting transactions, with consecutive ids from this one
 abbrev many : ℕ → ℕ → List Outstanding
 many zero from = []
 many (suc n) from = waits from 0 None wait ∷ many n (from + 1)

@@ -100,7 +100,7 @@ pub enum Stepped {
     Opened(Session),
     /// The event has been entered; the session of a `Take` is open.
     Done,
-    /// The session of the `Take` was closed because an allocation failed, for its message or for one of its waiting transactions.
+    /// The session of the `Take` was closed because an allocation failed, for its message or one of its waiting transactions.
     Closed,
     /// Nothing has changed.
     Refused(StepFault),

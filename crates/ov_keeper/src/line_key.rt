@@ -1,4 +1,3 @@
-
 use ov_base::Text;
 use std::hash::{Hash, Hasher};
 use std::marker::Model;

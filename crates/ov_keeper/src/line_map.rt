@@ -49,8 +49,8 @@ impl LineMap {
         }
     }
 
-    /// Makes all changes, in order, or none. What may be refused comes first: a copy of each change, and room for all rows that are
-    /// put.
+    /// Makes all changes, in order, or none. What may be refused comes first: a copy of each change, and room for all rows
+    /// that are put.
     pub(crate) fn commit(&mut self, alloc: Global, changes: &[Change]) -> Result<(), AllocError>
         ensures ok { OnOk result (lines_in self.new ≡ after_cell_changes (changes_view changes.now)
             (lines_in self.old)) }

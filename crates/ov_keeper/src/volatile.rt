@@ -16,9 +16,9 @@ use std::marker::Model;
 
 /// A keeper in memory, of format 2, for a database that is gone when the program ends. It holds each row once, in a hash map.
 ///
-/// Each refusal is `Memory`, and a refused call changes nothing that it holds. A load takes time proportional to the rows, and a
-/// commit or a rewrite to its changes, except where the map is rehashed, mostly for twice the room. During a rewrite it holds the
-/// former rows beside the new ones. It takes 9 * 2^28 rows at most.
+/// Each refusal is `Memory`, and a refused call changes nothing that it holds. A load takes time proportional to the rows, and
+/// a commit or a rewrite to its changes, except when the map is rehashed, mostly for twice the room. During a rewrite it holds
+/// the former rows beside the new ones. It takes 9 * 2^28 rows at most.
 pub struct VolatileKeeper {
     schema: Text,
     // None before the first commit or rewrite, which brings an allocator.

@@ -70,7 +70,7 @@ Puts c true put =
 
 -- ---- a lane
 
--- what is known of a closing: a closed session of which nothing is known was closed as out of memory
+-- what is known of a closing: a session that was closed for no known cause was closed as out of memory
 abbrev pub Knows : Option machine.Cause → Option Cause → Type 0
 Knows closed None = (closed ≡ None) ⊎ (closed ≡ Some machine.Memory)
 Knows closed (Some cause) = closed ≡ Some (cause_view cause)

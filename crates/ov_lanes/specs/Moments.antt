@@ -4,7 +4,7 @@ use Rattle.ov_specs.specs.machine.Machine as machine
 use Rattle.ov_specs.specs.machine.Machine.{State}
 
 -- A message is taken, and time passes, at the moment that was reported, or at the last one if that is later. A session is
--- opened or closed at the last moment; where memory is refused and it is closed in place of a message, at the message's.
+-- opened or closed at the last moment; if an allocation fails and it is closed in place of a message, at the message's.
 abbrev pub IsAtMoment : (reported last moment : ℕ) → machine.Event → Type 0
 IsAtMoment reported last moment machine.Open = moment ≡ last
 IsAtMoment reported last moment (machine.Take session message) = moment ≡ max reported last

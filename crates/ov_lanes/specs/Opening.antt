@@ -19,13 +19,13 @@ IsUntouched c = (c.closed ≡ None) × (c.asks ≡ []) × (c.handed ≡ [])
 abbrev pub IsLeftAlone : Bool → Course → Type 0
 IsLeftAlone was_open c = (c.is_open ≡ was_open) × (c.closed ≡ None) × (c.handed ≡ [])
 
--- the sessions have the serials from this one on, in order
+-- the sessions have consecutive serials in order; this is the first
 abbrev pub AreSessions : ℕ → List Session → Type 0
 AreSessions serial [] = Unit {0}
 AreSessions serial (session ∷ sessions) = (session.serial ≡ serial) × AreSessions (serial + 1) sessions
 
--- Since the core was `start`, this many sessions were opened and nothing else was done. They are open, and they have the serials
--- from this one on.
+-- Since the core was `start`, this many sessions were opened and nothing else was done. They are open, and have consecutive
+-- serials; this is the first.
 pub record OpensAll {K D : Type 0} (start : CoreState K D) (base count : ℕ) (core : CoreState K D) : Type 0 where
   pub since : Since start core
   pub timed : (reported : ℕ) → AreTimed reported start.state since.entries core.state

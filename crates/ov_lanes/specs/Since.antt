@@ -45,7 +45,7 @@ course_of {first = first} {core = core} since session = record {
   waiting = waiting_for session core.outbox;
 }
 
--- the course of a session of which nothing is done yet
+-- the course of a session before anything is done for it
 abbrev pub course_before : {K D : Type 0} → CoreState K D → ℕ → Course
 course_before core session = record {
   is_open = is_open core.state session;

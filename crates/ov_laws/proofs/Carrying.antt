@@ -1,4 +1,4 @@
--- What a conversion carries over: the values of the columns that both tables have, in the rows of tables that both schemas have.
+-- What a conversion carries over: the values of columns that both tables have, in the rows of tables that both schemas have.
 use Rattle.std.proofs.Common.{◌≡◌, ℕ, List, [], ◌∷◌, map, Bool, true, false, cond, not, is_some, option_map, option_and_then, Option, Some, None, refl, sym, ap, ◌∙◌}
 use Rattle.std.proofs.lemmas.Map.Lookups.{exact_pairs}
 use Rattle.std.specs.Prelude.{unwrap_or}

@@ -16,7 +16,7 @@ pub after_all-append : (n : ℕ) (ds es : List Database) → after_all n (ds ++ 
 after_all-append n [] es = refl
 after_all-append n (d ∷ ds) es = after_all-append (suc n) ds es
 
--- from one database to another, over these, each of which is made of the one before it; they are numbered from this one on
+-- from one database to another, over these, each made of the one before it; this is the number of the first
 abbrev pub Path : (ℕ → Database → Database → Type 0) → ℕ → Database → List Database → Database → Type 0
 Path R n a [] b = a ≡ b
 Path R n a (d ∷ ds) b = R n a d × Path R (suc n) d ds b

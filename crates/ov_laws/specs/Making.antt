@@ -96,9 +96,9 @@ pub record Reply : Type 0 where
   pub id : Data
   pub results : Items
 
--- The reply has the results of a transaction of its session and id, which an attempt of the entry tries; `s` is the state before
--- the entry. If n attempts of the entry were kept before it, it is tried on database n of these, counted from 0; and it leaves
--- that as it was, or makes the next one of it.
+-- The reply has the results of a transaction of its session and id, which an attempt of the entry tries; `s` is the state
+-- before the entry. If n attempts of the entry were kept before it, it is tried on database n of these, counted from 0, and
+-- leaves that as it was or makes the next one of it.
 pub record RepliesTo
     (first : State) (earlier : List Entry) (s : State) (entry : Entry) (databases : List Database)
     (reply : Reply) : Type 0 where

@@ -61,8 +61,8 @@ module _ {K D C : Type 0} (tells : C → ℕ → C → Type 0) where
       × (length streams ≡ count) × ServesConnections old streams new remains))
       ⊎ (RefusesConnections old count told new ⊎ FailsToListen old told new)
 
-  -- Every client that was given a session was served, until no connection could be accepted; or the lobby was refused, no client
-  -- was accepted, the ending is that of the fault, and the core is as it was.
+  -- Every client that was given a session was served, until no connection could be accepted; or the lobby was refused, no
+  -- client was accepted, the ending is that of the fault, and the core is as it was.
   abbrev pub EndsEveryone : Timed K D C → Ending → Timed K D C → Type 0
   EndsEveryone old told new =
       ((told ≡ ending.Streams) × ServesGuests (socket_ends {R = TcpStream} {W = BufWriter TcpStream Global}) tells old new)

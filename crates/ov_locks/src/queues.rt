@@ -94,8 +94,8 @@ impl Queues {
         }
     }
 
-    /// The session leaves the queue of the lock. Returns the session that becomes the owner by that, and the frame that
-    /// notifies it. Allocates nothing.
+    /// The session leaves the queue of the lock. Returns the next owner, if the session was the owner and another waits, and
+    /// the frame that notifies it. Allocates nothing.
     pub fn unlock(&mut self, session: u64, name: &str) -> Option<(u64, Bytes)>
         ensures told { result ≡ told name.now (next_owner name.now session self.old) }
         ensures queues { self.new ≡ unlock name.now session self.old }
@@ -120,8 +120,8 @@ impl Queues {
     }
 }
 
-/// The session leaves the queue. Returns the session that becomes the owner by that, and the frame that notifies it; and
-/// whether nobody is left, and the queue has to be removed.
+/// The session leaves the queue. Returns the next owner, if there is a new one, with the frame that notifies it; and whether
+/// nobody is left, so that the queue has to be removed.
 fn leave_queue(queue: &mut Queue, session: u64) -> (Option<(u64, Bytes)>, bool)
     ensures left { (if result.1 then [] else sessions_of queue.new)
         ≡ without session (sessions_of queue.old) }

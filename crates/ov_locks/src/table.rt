@@ -128,8 +128,8 @@ impl LockTable {
         }
     }
 
-    /// The session gives up the lock, or stops waiting for it. Returns the session that becomes the owner by that, and the
-    /// frame that notifies it (RFC 7047, 4.1.8 and 4.1.9). Allocates nothing, and is refused only as `NotHeld`.
+    /// The session gives up the lock, or stops waiting for it. Returns the next owner, if the session was the owner and another
+    /// waits, and the frame that notifies it (RFC 7047, 4.1.8 and 4.1.9). Allocates nothing, and is refused only as `NotHeld`.
     pub fn unlock(&mut self, session: u64, name: &str) -> Result<Option<(u64, Bytes)>, LockFault>
         ensures answer { result
             ≡ (if has_requested session name.now self.old.0 then Ok
@@ -145,8 +145,8 @@ impl LockTable {
         Ok(self.queues.unlock(session, name))
     }
 
-    /// The session gives up all locks, and stops waiting for any, as when it is closed. The sessions that become owners by
-    /// that are kept for `next_freed`, in ascending order of the locks' names, after earlier ones. Allocates nothing.
+    /// The session gives up all locks, and stops waiting for any, as when it is closed. The new owners are kept for
+    /// `next_freed`, in ascending order of the locks' names, after earlier ones. Allocates nothing.
     pub fn leave_all(&mut self, session: u64)
         ensures { self.new
             ≡ (leave session self.old.0, self.old.1 ++ told_all (freed session self.old.0)) }

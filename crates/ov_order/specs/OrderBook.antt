@@ -5,7 +5,7 @@ use Rattle.std.specs.Prelude.{◌≡◌, ℕ, ◌+◌, ◌-◌, ◌^◌, ◌<◌
 abbrev pub note_limit : ℕ
 note_limit = 4160
 
--- the serials noted and not yet taken, the oldest first; how many were taken; and whether the workers may begin, if that was said
+-- the serials noted and not yet taken, oldest first; how many were taken; and whether the workers may begin, once it is known
 pub record OrderBook : Type 0 where
   pub waiting : List ℕ
   pub taken : ℕ

@@ -105,8 +105,8 @@ pub(crate) fn steal(
     }
 }
 
-/// The session gives up the lock, or stops waiting for it, and then keeps one place less. The session that becomes the owner
-/// by that is notified.
+/// The session gives up the lock, or stops waiting for it, and then keeps one place less. The new owner is notified, if there
+/// is one.
 pub(crate) fn unlock(
     alloc: Global,
     frames: &mut FrameQueues,
@@ -144,7 +144,7 @@ pub(crate) fn unlock(
     }
 }
 
-/// The session leaves all queues, and the sessions that become owners by that are notified. Allocates nothing.
+/// The session leaves all queues, and the new owners are notified. Allocates nothing.
 pub(crate) fn leave(frames: &mut FrameQueues, locks: &mut LockTable, session: u64)
     requires freed { locks.old.1 ≡ [] }
     requires room { HasRoom frames.old locks.old.0 }

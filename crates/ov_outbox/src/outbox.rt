@@ -168,8 +168,8 @@ impl Outbox {
         }
     }
 
-    /// The session gives up all locks, and stops waiting for any. The sessions that become owners by that are notified (RFC
-    /// 7047, 4.1.9). Allocates nothing.
+    /// The session gives up all locks, and stops waiting for any. The new owners are notified (RFC 7047, 4.1.9). Allocates
+    /// nothing.
     pub fn leave(&mut self, session: u64)
         ensures queues { self.new.queues ≡ leave session self.old.queues }
         ensures posts { PostsSent (told (told_of_leaving session self.old.queues)) self.old.frames

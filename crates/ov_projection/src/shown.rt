@@ -184,7 +184,8 @@ impl PartialOrd for ShownRow {
 
     ghost partial_cmp = { λ a b. Some (slice_cmp column_cmp a b) };
 
-    ghost laws = { partial_order_from_agreeing_total (slice_cmp column_cmp) (lists_total column_cmp_total) (λ a b. refl) (λ a b. refl) };
+    ghost laws = { partial_order_from_agreeing_total (slice_cmp column_cmp)
+        (lists_total column_cmp_total) (λ a b. refl) (λ a b. refl) };
 
     fn partial_cmp(&self, other: &ShownRow) -> Option<Ordering> {
         Some(self.cmp(other))

@@ -30,7 +30,14 @@ impl Model for Outstanding {
 
     ghost coded = { Prim.hlevel (codes, tree_code, items_code) };
 
-    ghost view = { λ o. record { session = o.session; id = o.id; draws = o.txn.draws; operations = o.txn.operations; arrival = o.arrival; timeout = o.timeout } };
+    ghost view = { λ o. record {
+      session = o.session;
+      id = o.id;
+      draws = o.txn.draws;
+      operations = o.txn.operations;
+      arrival = o.arrival;
+      timeout = o.timeout;
+    } };
 
     ghost invariant = { λ o. o.text ≡ compact_text o.id };
 }

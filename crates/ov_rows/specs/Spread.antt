@@ -7,8 +7,8 @@ abbrev pub before : Option Datum → List Datum → List Datum
 before None rest = []
 before (Some datum) rest = datum ∷ rest
 
--- The values of the columns. Each of the first `columns` has a bit of the marks, the lowest for the first: a column whose bit is
--- set has the shared value, and any other the next of the row's own.
+-- The values of the columns. Each of the first `columns` has a bit of the marks, the lowest for the first: a column whose bit
+-- is set has the shared value, and any other the next of the row's own.
 abbrev pub spread_over : ℕ → ℕ → Option Datum → List Datum → List Datum
 spread_over zero marks shared own = own
 spread_over (suc columns) marks shared [] = if marks % 2 == 1 then before shared (spread_over columns (marks / 2) shared []) else []

@@ -130,8 +130,8 @@ fn count_shares(values: &[Datum], nothing: &Datum) -> usize {
     count
 }
 
-/// Puts a value in front: at the end of `own`, which is in reverse order, or as a mark if it is the shared one. Returns the marks
-/// with it. `place` is that of its column, counted from 0.
+/// Puts a value in front: at the end of `own`, which is in reverse order, or as a mark if it is the shared one. Returns the
+/// marks with it. `place` is that of its column, counted from 0.
 fn put_first(
     own: &mut Vec<Datum>,
     marks: u64,

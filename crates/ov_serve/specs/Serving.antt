@@ -35,9 +35,8 @@ server_of source sink core reader writer clock = record { core = core; reader = 
 
 -- ---- frames handed out
 
--- Whatever history and frames the core has followed, it follows the history with these entries appended, and these frames of
--- the session were handed out on the way. The core keeps the newest of the entries it had kept and these, and it has counted the
--- work on these.
+-- The core follows the history that it had followed with these entries appended, and these frames of the session were handed
+-- out on the way. The core keeps the newest of the entries it had kept and these, and it has counted the work on these.
 pub record ExtendsHanding {K D : Type 0} (n : ℕ) (old : CoreState K D) (entries : List machine.Entry) (frames : List (List ℕ)) (new : CoreState K D) : Type 0 where
   pub follows : (before : State) (history : List machine.Entry) (given : ℕ → List (List ℕ)) → Follows before history given old
       → Follows before (history ++ entries) (and_all_handed given n frames) new

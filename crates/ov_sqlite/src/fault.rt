@@ -34,8 +34,8 @@ pub(crate) fn fault_of(error: &Error) -> KeepFault
     refusal(error).unwrap_or(KeepFault::Device)
 }
 
-/// Why a write stopped. After an error at the commit itself the commit may be stored; a statement that succeeds shows that it is
-/// not. If the lines were read before, this statement allocates nothing.
+/// Why a write stopped. After an error at the commit itself the commit may be stored; a statement that succeeds shows that it
+/// is not. If the lines were read before, this statement allocates nothing.
 pub fn fault_at<S: Alter>(conn: &mut Connection<S>, failure: &WriteError) -> KeepFault
     requires { conn.old.in_transaction ≡ false }
     ensures mode { conn.new.in_transaction ≡ false }

@@ -85,7 +85,7 @@ fn to_cell(alloc: Global, column: &str, body: &[u8]) -> Result<Cell, AllocError>
     })
 }
 
-/// Adds the cell to the row with its key, and returns the place of that row. `None` if the row is no cell, or there is no such row.
+/// Adds the cell to the row with its key, and returns the place of that row; `None` if it is no cell, or there is no such row.
 fn put_cell(
     alloc: Global,
     lines: &mut Vec<CellLine>,

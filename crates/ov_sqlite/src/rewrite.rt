@@ -52,9 +52,9 @@ fn has_heads(schema: &Schema) -> bool
     schema.table_named(b"head").is_some()
 }
 
-/// Replaces the schema's text and all rows, in one transaction: empties the tables of either stored format, makes those of format
-/// 2 if they are not there, and makes the changes. After an error the connection is closed or shows what it did before. After an
-/// error at the commit itself the rewrite may be stored.
+/// Replaces the schema's text and all rows, in one transaction: empties the tables of either stored format, makes those of
+/// format 2 if they are not there, and makes the changes. After an error the connection is closed or shows what it did before.
+/// After an error at the commit itself the rewrite may be stored.
 pub fn rewrite_all<S: Alter>(
     conn: &mut Connection<S>,
     schema: &Text,

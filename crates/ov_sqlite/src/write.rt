@@ -318,8 +318,8 @@ pub(crate) fn apply_all<S: Alter>(
     Ok(())
 }
 
-/// Makes the changes in one transaction, in a database of stored format 2. After an error the connection is closed or shows what
-/// it did before. After an error at the commit itself the changes may be stored.
+/// Makes the changes in one transaction, in a database of stored format 2. After an error the connection is closed or shows
+/// what it did before. After an error at the commit itself the changes may be stored.
 pub fn write_all<S: Alter>(conn: &mut Connection<S>, changes: &[Change]) -> Result<(), WriteError>
     requires autocommit { conn.old.in_transaction ≡ false }
     requires some { 0 < length changes.now }

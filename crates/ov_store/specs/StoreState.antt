@@ -41,8 +41,8 @@ module _ {S : Type 0} (g : Ghosts S) where
     pub of_format : format_of (lines_view loaded.lines) ≡ format
     pub is_found : HasCleanDisk (state g c) → (contents : Stored) → MayFind c contents → contents ≡ loaded_contents loaded
 
-  -- between calls no transaction is under way. While the connection is open the tables are those of the format, and what an open
-  -- may find is of that format, or of a later one where the device failed in a rewrite
+  -- Between calls no transaction is under way. While the connection is open the tables are those of the format, and what an
+  -- open may find is of that format, or of a later one if the device failed in a rewrite.
   pub record IsAtRest (c : Connected S) (format : ℕ) (read : Option Loaded) : Type 0 where
     pub mode : c.in_transaction ≡ false
     pub known : (format ≡ 1) ⊎ (format ≡ 2)

@@ -100,8 +100,8 @@ impl<S: Alter + Drop> Store<S> {
     /// Opens the store of a database in stored format 1 or 2. Refuses as `NotOurs` if a table of the format is missing or
     /// differs, if another table has a foreign key to them, if another index of theirs is unique, if `meta` names the other
     /// format, or if format 1 has no room for the tables of format 2; anything else beside them is ignored. Refuses as
-    /// `Format` if a row of theirs is not as in the format. Reads each row once: the store keeps what was read until it is loaded
-    /// or changed. A refusal leaves the connection with what it held, and a crash then leaves what it left before.
+    /// `Format` if a row of theirs is not as in the format. Reads each row once: the store keeps what was read until it is
+    /// loaded or changed. A refusal leaves the connection with what it held, and a crash then leaves what it left before.
     pub fn open(alloc: Global, mut connection: Connection<S>) -> Result<Store<S>, Unopened<S>>
         requires { connection.in_transaction ≡ false }
         ensures ok { IfOk result (λ s. HasCleanDisk (state S.Store s.connection)

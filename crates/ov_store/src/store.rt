@@ -51,8 +51,8 @@ impl<S: Alter> Store<S> {
         self.failures
     }
 
-    /// The stored format: 1 or 2. What an open finds is of this format, or of a later one where the device failed in a rewrite of
-    /// format 1.
+    /// The stored format: 1 or 2. What an open finds is of this format, or of a later one if the device failed in a rewrite
+    /// of format 1.
     pub fn format(&self) -> u8
         ensures same { result ≡ self.now.format }
         ensures kinds { (result ≡ 1) ⊎ (result ≡ 2) }

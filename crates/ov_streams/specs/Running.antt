@@ -41,8 +41,8 @@ cutter_of n cutters = lookup (is_at (nat_cmp n)) cutters
 abbrev pub HasCutter : ℕ → List ℕ → List (ℕ × CutterState) → Type 0
 HasCutter n stream cutters = IsSomeAnd (cutter_of n cutters) (IsFed stream)
 
--- The list of events expands to the history that the core has followed from its opening, and each open session has a cutter that
--- was given its stream.
+-- The list of events expands to the history that the core has followed from its opening, and each open session has a cutter
+-- that was given its stream.
 pub record FollowsEvents {K D : Type 0} (schema : Schema) (database : Database) (list : List streams.StreamEvent) (history : List Entry) (given : ℕ → List (List ℕ)) (now : StreamsState K D) : Type 0 where
   pub fed : Streams
   pub follows : Follows (opening schema database) history given now.core

@@ -29,8 +29,8 @@ pub record Clears (name : List ℕ) (old new : State) : Type 0 where
       old.now.trees new.now.trees
   pub sound : IsDatabase new.now
 
--- Outside the tables of the stored format everything is as it was. A rewrite from format 1 also makes tables, so that there only
--- the rows of the other tables are spoken of.
+-- Outside the tables of the stored format everything is as it was. A rewrite from format 1 also makes tables, so for it this
+-- is said of the rows of the other tables alone.
 abbrev pub KeepsRest : Schema → Trees → Trees → Type 0
 KeepsRest schema old new =
     (HasLineTables schema → KeepsTables (line_trees schema) schema old new)

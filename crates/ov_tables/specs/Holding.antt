@@ -52,7 +52,7 @@ abbrev pub KeepsTables : List ℕ → Schema → Trees → Trees → Type 0
 KeepsTables exempt schema old new =
     AllByRecursion (λ t. is_among exempt t.tree ≡ false → new t.tree ≡ old t.tree) schema.tables
 
--- outside these trees everything is as it was: the rows of each other table, and the contents of each tree that is not an index's
+-- outside these trees everything is as it was: the rows of each other table, and each tree that is not an index's
 pub record KeepsOthers (exempt : List ℕ) (schema : Schema) (old new : Trees) : Type 0 where
   pub tables : KeepsTables exempt schema old new
   pub trees : (t : ℕ) → is_among exempt t ≡ false → IsNoIndex schema t → new t ≡ old t

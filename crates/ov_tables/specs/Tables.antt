@@ -144,7 +144,8 @@ IsAlone schema table key =
     × (list_all (is_apart table.tree schema) schema.tables ≡ true)
     × (list_all (is_allowed key table.tree) schema.indexes ≡ true)
 
--- the database has the two tables of stored format 1, and room for those of format 2. It may have other tables, indexes and views
+-- The database has the two tables of stored format 1, and room for those of format 2. It may have other tables, indexes and
+-- views.
 pub record HasLineTables (schema : Schema) : Type 0 where
   pub meta : HasTable schema (meta_table (tree_of schema (codes "meta")))
   pub line : HasTable schema (line_table (tree_of schema (codes "line")))

@@ -106,8 +106,8 @@ fn clear_lines<S: Alter>(tx: &mut Transaction<'_, S>) -> Result<(), Error>
     make_rows(tx)
 }
 
-/// Leaves the tables of stored format 2 without rows, from either format: `in_cells` says whether those of format 2 are there. If
-/// they are not, it makes `head` and `cell` beside the empty tables of format 1. It commits nothing, and refuses only where SQLite
+/// Leaves the tables of stored format 2 without rows, from either format: `in_cells` says whether those of format 2 are there.
+/// If they are not, makes `head` and `cell` beside the empty tables of format 1. Commits nothing, and refuses only if SQLite
 /// does.
 pub fn clear_tables<S: Alter>(tx: &mut Transaction<'_, S>, in_cells: bool) -> Result<(), Error>
     ensures same_reference { tx.new.conn.ghost_name ≡ tx.old.conn.ghost_name }

@@ -109,8 +109,8 @@ fn insert_meta<S: Alter>(tx: &mut Transaction<'_, S>, key: &str, value: &[u8]) -
     Ok(())
 }
 
-/// Writes the two rows of `meta`, which has none: that the format is 2, and the schema's text. It commits nothing, and refuses only
-/// where SQLite does.
+/// Writes the two rows of `meta`, which has none: that the format is 2, and the schema's text. Commits nothing, and refuses
+/// only if SQLite does.
 pub fn fill_meta<S: Alter>(tx: &mut Transaction<'_, S>, schema: &Text) -> Result<(), Error>
     ensures same_reference { tx.new.conn.ghost_name ≡ tx.old.conn.ghost_name }
     ensures ok { Within MayBeBare (Fills schema.now)

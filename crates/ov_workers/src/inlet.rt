@@ -19,7 +19,7 @@ pub struct Inlet<L: Ledger> {
 }
 
 impl<L: Ledger> Inlet<L> {
-    /// The inlet of a session of which nothing was read yet.
+    /// The inlet of a session from whose link nothing has been read yet.
     pub fn new(ring: Producer<Brought<Received, ReadCause>>, noter: Noter<L>) -> Inlet<L>
         requires { (sent ring ≡ []) × (noter.share.amount ≡ 0) }
         ensures { (result.ring ≡ ring) × (result.noter ≡ noter) }

@@ -2,7 +2,7 @@ use ov_base::{Bytes, Text};
 use ov_keeper::{Change, KeepFault, Keeper, Line, Lines, ListKeeper, Loaded};
 use std::alloc::{AllocError, Global};
 
-/// A keeper in memory that holds lines of format 1 until its first rewrite, and rows of format 2 from then on. No contract says
+/// A keeper in memory that holds lines of format 1 until its first rewrite, and rows of format 2 afterwards. No contract says
 /// what it holds: for tests of openings.
 #[derive(Drop)]
 pub struct WholeKeeper {

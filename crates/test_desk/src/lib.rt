@@ -1,5 +1,5 @@
-//! Tests of what crosses threads: the order of notes, the rings between workers and the desk, the workers, and the desk with its
-//! clients.
+//! Tests of what crosses threads: the order of notes, the rings between workers and the desk, the workers, and the desk with
+//! its clients.
 #![tactic(auto)]
 
 #[cfg(test)]

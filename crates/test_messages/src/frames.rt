@@ -110,8 +110,8 @@ fn reply_of_rows(alloc: Global, id: &str, rows: &str) -> Result<String, Fail> {
     reply_of_array(alloc, id, &results)
 }
 
-/// The commands are `reply ID RESULT`, `results ID RESULTS`, `rows ID ROWS`, `failure ID ERROR`, `notification METHOD PARAMS` and
-/// `append RESULTS ITEM`.
+/// The commands are `reply ID RESULT`, `results ID RESULTS`, `rows ID ROWS`, `failure ID ERROR`, `notification METHOD PARAMS`
+/// and `append RESULTS ITEM`.
 #[derive(Drop)]
 struct Frames;
 

@@ -98,7 +98,8 @@ const TAKEN_IN: &str =
 {"id":1,"method":"echo","params":[0.5]} -> bad 1 reals
 {"id":1,"result":[],"error":null} -> answer"#;
 
-/// The message of a text in words: `call ID METHOD PARAMS`, `notification METHOD PARAMS`, `answer`, `bad ID KIND` or `unreadable`.
+/// The message of a text in words: `call ID METHOD PARAMS`, `notification METHOD PARAMS`, `answer`, `bad ID KIND` or
+/// `unreadable`.
 fn words(alloc: Global, text: &[u8]) -> Result<String, Fail> {
     match Message::read(alloc, text) {
         Ok(message) => words_of(alloc, &message),

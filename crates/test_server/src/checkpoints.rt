@@ -43,8 +43,8 @@ fn loads(alloc: Global, first: u64, last: u64) -> Result<String, Fail> {
     Ok(answers)
 }
 
-/// What a file that fails during each of `count` commits may leave: every commit that was answered, and the next one whole or not
-/// at all.
+/// What a file that fails during each of `count` commits may leave: every commit that was answered, and the next one whole or
+/// not at all.
 fn each(alloc: Global, count: u64) -> Result<String, Fail> {
     let mut outcomes = String::new(alloc);
     for done in 0..count {

@@ -33,8 +33,8 @@ pub(crate) const ONE: &str =
 const TWO: &str = r#"Switch 2 1 {"load":0,"main":["set",[]],"name":"s1","ports":["set",[]]}
 Switch 4 3 {"load":0,"main":["set",[]],"name":"s2","ports":["set",[]]}"#;
 
-/// What a machine over a keeper replies to a message, under this schema; the hundredth identifier is the next one. Why it is not
-/// opened, if it is not.
+/// What a machine over a keeper replies to a message, under this schema; the hundredth identifier is the next one. If it can't
+/// be opened, why.
 fn reply_over<K: Keeper + Drop>(
     alloc: Global,
     keeper: K,

@@ -1,6 +1,6 @@
-//! Transactions over a database file and its log, one of which fails after some number of calls, and what is found when both are
-//! opened again: after the program ended, where all that was written is there, and after the machine stopped, where what was not
-//! synced is lost.
+//! Transactions over a database file and its log, one of which fails after some number of calls, and what is found when both
+//! are opened again: after the program ended, when all that was written is there, and after the machine stopped, when what was
+//! not synced is lost.
 
 use crate::stops::{Before, Case, fails_once, stops};
 use std::alloc::Global;

@@ -12,7 +12,7 @@ use std::alloc::Global;
 use std::test::Fail;
 use test_basics::{Counter, NET, is_text, schema_of_text, whole_file};
 
-/// What a machine over a keeper replies when all switches are selected, and the keeper; the hundredth identifier is the next one.
+/// What a machine over a keeper replies when all switches are selected, and the keeper. The hundredth identifier comes next.
 fn selected<K: Keeper + Drop>(alloc: Global, keeper: K, schema: &str) -> Result<(K, String), Fail> {
     let schema = schema_of_text(alloc, schema)?;
     let mut core = Core::open(alloc, keeper, schema, Counter::after(99))?;

@@ -20,8 +20,8 @@ put Port 1 2 {"tag":2}
 rewrite newer"#;
 
 /// What may be found before all is made: the number of commits and rewrites made, then the rows of exactly these, or of the one
-/// that failed too, and the text of the schema if it is the newer one. After a refused create there is nothing, or the whole new
-/// store.
+/// that failed too, and the text of the schema if it is the newer one. After a refused create there is nothing, or the whole
+/// new store.
 const ALLOWED: &str = r#"no database
 refused: nothing
 refused: a store
@@ -43,8 +43,8 @@ commit"#;
 /// The lines of the store of format 1.
 const OLD_LINES: &str = "Port 1 7 port\nSwitch 1 0 {}";
 
-/// What may be found in the store of format 1 before all is made: its lines as they were; or all that the rewrite puts, in format
-/// 2; or that with all of the commit. A file may also fail before there is such a store.
+/// What may be found in the store of format 1 before all is made: its lines as they were; or all that the rewrite puts, in
+/// format 2; or that with all of the commit. A file may also fail before there is such a store.
 const OLD_ALLOWED: &str = r#"no database
 not prepared
 refused: lines

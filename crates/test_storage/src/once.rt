@@ -7,9 +7,9 @@ use test_basics::{Scripted, agrees};
 
 /// A disk that fails once, driven by a script.
 ///
-/// The calls are `write` (the bytes `ab`, to the start), `cut` (to one byte), `sync`, `length` and `read` (the first byte). They
-/// are answered with a number, or with `failed`, as is each call of a disk that may not be used. `left` returns the number of
-/// calls before the one that fails; `crash` is a crash.
+/// The calls are `write` (the bytes `ab`, to the start), `cut` (to one byte), `sync`, `length` and `read` (the first byte).
+/// They are answered with a number, or with `failed`, as is each call of a disk that may not be used. `left` returns the number
+/// of calls before the one that fails; `crash` is a crash.
 #[derive(Drop)]
 struct Once {
     disk: FailsOnce<Memory>,

@@ -22,8 +22,8 @@ Switch 2 1 {"load":0,"main":["set",[]],"name":"s1","ports":["set",[]]}
 Switch 6 1 {"load":-9223372036854775808,"main":["uuid","00000000-0000-0000-0000-000000000003"],"name":"\"\u0001é","ports":["set",[["uuid","00000000-0000-0000-0000-000000000003"],["uuid","00000000-0000-0000-0000-000000000005"]]]}
 "#;
 
-/// Bodies of lines of Port in format 1 that are or are not rows: not JSON, not an object, a column missing, added or repeated, another
-/// order, a space; values of another kind, out of range, too many, out of order, not as they are written; a real.
+/// Bodies of lines of Port in format 1 that are or are not rows: not JSON, not an object, a column missing, added or repeated,
+/// another order, a space; values of another kind, out of range, too many, out of order, not as they are written; a real.
 const BODIES: &str = r#"x -> a stored row does not fit the schema
 [] -> a stored row does not fit the schema
 {"name":"p1","peer":["set",[]]} -> a stored row does not fit the schema
@@ -47,9 +47,9 @@ const BODIES: &str = r#"x -> a stored row does not fit the schema
 pub(crate) const EVERY: &str =
     r#"{"name":"Every","tables":{"All":{"columns":{"flag":{"type":"boolean"},"id":{"type":"uuid"},"ids":{"type":{"key":"uuid","max":"unlimited","min":0}},"name":{"type":"string"},"number":{"type":"integer"},"numbers":{"type":{"key":"integer","max":"unlimited","min":0}},"truths":{"type":{"key":"uuid","max":"unlimited","min":0,"value":"boolean"}},"words":{"type":{"key":"string","max":"unlimited","min":0,"value":"string"}}}}},"version":"1.0.0"}"#;
 
-/// Bodies of lines of All in format 1 that are or are not rows: each kind of value, with no elements and with some, and texts with
-/// escapes; then other names, words and brackets, elements out of order or repeated, a repeated key, values of another kind,
-/// a U+0000, other numbers.
+/// Bodies of lines of All in format 1 that are or are not rows: each kind of value, with no elements and with some, and texts
+/// with escapes; then other names, words and brackets, elements out of order or repeated, a repeated key, values of another
+/// kind, a U+0000, other numbers.
 const EVERY_BODIES: &str =
     r#"{"flag":true,"id":["uuid","01234567-89ab-cdef-0123-456789abcdef"],"ids":["set",[["uuid","00000000-0000-0000-0000-000000000003"],["uuid","00000000-0000-0000-0000-000000000005"]]],"name":"a\"\\n\u0001é😀","number":-9223372036854775808,"numbers":["set",[-3,0,7]],"truths":["map",[[["uuid","00000000-0000-0000-0000-000000000003"],false],[["uuid","00000000-0000-0000-0000-000000000005"],true]]],"words":["map",[["","x"],["map","set"],["set","uuid"]]]} -> kept
 {"flag":false,"id":["uuid","00000000-0000-0000-0000-000000000000"],"ids":["set",[]],"name":"","number":9223372036854775807,"numbers":["set",[]],"truths":["map",[]],"words":["map",[]]} -> kept

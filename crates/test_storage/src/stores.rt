@@ -175,8 +175,8 @@ lines -> Switch 1 0 {"name":"one"};"#;
     kept_in_memory(rt.alloc(), faults, script)
 }
 
-/// A row without cells, one whose cells are put in several changes of a commit, and cells of the same column in rows of the same
-/// identifier and of the same table.
+/// A row without cells, one whose cells are put in several changes of a commit, and cells of the same column in rows of the
+/// same identifier and of the same table.
 const CELLS: &str = r#"put Switch 1 0 {}
 put Switch 2 0 {"name":"two"}
 put Switch 2 1 {"load":2}

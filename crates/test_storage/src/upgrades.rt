@@ -88,7 +88,7 @@ fn a_database_of_format_1_has_format_2_after_an_opening(rt: HostRuntime) -> Resu
     are_upgraded(rt.alloc(), connection, statements.as_str())
 }
 
-/// What comes of an opening over a keeper of format 1: how many rows it gives, or why it is refused, which gives the keeper back.
+/// What comes of an opening over a keeper of format 1: how many rows it gives, or why it is refused; and the keeper.
 fn outcome_of<K: Keeper + Drop>(
     alloc: Global,
     opened: Result<Db<K>, RefusedOpen<K>>,
@@ -106,7 +106,7 @@ fn outcome_of<K: Keeper + Drop>(
     }
 }
 
-/// Opens the rows of a keeper, and returns what comes of it, the format that is stored then, and how often the device has failed.
+/// Opens the rows of a keeper, and returns what comes of it, the format that is stored then, and how often the device failed.
 fn opening<K: Keeper + Drop>(alloc: Global, keeper: K) -> Result<(K, String), Fail> {
     let opened = Db::open(alloc, keeper, net(alloc)?);
     let (keeper, told) = outcome_of(alloc, opened)?;

@@ -191,8 +191,8 @@ const COMMITTED: &str = "Switch 9
 Port 4
 Switch 3";
 
-/// An insert has the identifier that it chooses in place of its draw, and so does its name, unless its table has or had a row of
-/// it.
+/// An insert has the identifier that it chooses in place of its draw, and so does its name, unless its table has or had a row
+/// with it.
 const CHOSEN: &str =
     r#"[{"op":"insert","table":"Switch","uuid":"00000000-0000-4000-9000-000000000001","row":{"name":"s1"}},{"op":"select","table":"Switch","where":[["_uuid","==",["uuid","00000000-0000-4000-9000-000000000001"]]],"columns":["_uuid","name"]}] -> {"uuid":["uuid","00000000-0000-4000-9000-000000000001"]} {"rows":[{"_uuid":["uuid","00000000-0000-4000-9000-000000000001"],"name":"s1"}]} 1
 [{"op":"insert","table":"Switch","uuid":["uuid","00000000-0000-4000-9000-000000000001"],"row":{}},{"op":"insert","table":"Switch","row":{}}] -> {"uuid":["uuid","00000000-0000-4000-9000-000000000001"]} {"uuid":["uuid","00000000-0000-4000-8000-000000000003"]} 2

@@ -1,4 +1,4 @@
--- The columns of a row, found one after another: what a loop over the members of an object makes, and one over the columns of a table.
+-- The columns of a row, found one after another by a loop over the members of an object, or over the columns of a table.
 use Rattle.std.proofs.Common.{◌≡◌, ℕ, List, [], ◌∷◌, filter, Bool, true, false, cond, not, ◌||◌, T, Some, is_some, refl, sym, ap, ◌∙◌, if◌then◌else◌}
 use Rattle.std.specs.Prelude.{Result, Ok, Err}
 use Rattle.std.specs.FinMap.{empty, get, insert, contains_key, entries, entries_sorted, is_sorted, get-insert}

@@ -165,8 +165,8 @@ pub record SettlingPoint : Type 0 where
 abbrev pub at_point : State → List Sent → ℕ → List Outstanding → SettlingPoint
 at_point state sent number waiting = record { state = state; sent = sent; number = number; waiting = waiting }
 
--- Settling from a state, with what was listed so far and whatever is listed of the attempts from this one on, comes to what
--- was sent so far and the rest of settling from here.
+-- Settling from a state, with what was listed so far and anything listed for this attempt and later ones, comes to what was
+-- sent so far and the rest of settling from here.
 abbrev pub Reaches : State → ℕ → List Attempt → SettlingPoint → Type 0
 Reaches from first made here =
     (more : List Attempt) → AreFrom here.number more

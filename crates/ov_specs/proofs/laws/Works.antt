@@ -1,4 +1,4 @@
--- What the work on a message comes to, and a try of a transaction that waits, case by case: what holds in each case holds of it.
+-- What the work on a message and a try of a waiting transaction come to, case by case: what holds of each case holds of it.
 use Rattle.std.proofs.Common.{◌≡◌, ℕ, ◌-◌, List, [], ◌∷◌, Bool, true, false, cond, ◌++◌, Option, Some, None, length, eqb, leb, refl, subst}
 use Rattle.std.specs.Prelude.{codes, is_some}
 use Rattle.std.proofs.lemmas.Option.{same_Some}

@@ -11,7 +11,7 @@ use Rattle.ov_specs.specs.values.Reading.{uuid_read}
 use Rattle.ov_specs.specs.values.Uuid.{Uuid, no_names}
 use Rattle.ov_specs.specs.wire.Tree.{item_list}
 
--- the identifier that a text or ["uuid",text] stands for (RFC 7047, 5.1, <uuid>; that the text may stand alone is this server's)
+-- the identifier that a text or ["uuid",text] stands for (RFC 7047, 5.1, <uuid>; the text alone is this server's extension)
 abbrev pub id_read : Data → Option Uuid
 id_read d = option_or (option_and_then parsed_hyphenated (as_str d)) (uuid_read no_names d)
 
