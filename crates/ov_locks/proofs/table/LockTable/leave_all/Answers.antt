@@ -1,4 +1,4 @@
-use Rattle.std.proofs.Common.{◌++◌, [], length, sym, ap, ◌∙◌, arith}
+use Rattle.std.proofs.Common.{◌++◌, length, sym, ap, ◌∙◌, arith}
 use Rattle.std.proofs.lemmas.List.{append-nil}
 use Rattle.ov_specs.specs.locks.Queues.{unlock_all, freed_all, leave, freed}
 use Rattle.ov_locks.specs.Freeing.{told_all}
