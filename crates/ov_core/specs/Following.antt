@@ -1,8 +1,10 @@
 -- Which histories a core has followed, and which of their frames were handed out.
 use Rattle.std.specs.Prelude.{◌≡◌, ℕ, ◌+◌, ◌≤◌, ◌==◌, ◌++◌, List, [], ◌∷◌, if◌then◌else◌, true, false, is_some, Option, Some, option_to_list}
 use Rattle.ov_specs.specs.machine.Machine as machine
-use Rattle.ov_specs.specs.machine.Machine.{State, Sent}
+use Rattle.ov_specs.specs.machine.Machine.{State, Sent, opening}
 use Rattle.ov_specs.specs.machine.History.{run, frames_to}
+use Rattle.ov_specs.specs.rows.Database.{Database}
+use Rattle.ov_specs.specs.schema.SchemaTypes.{Schema}
 use Rattle.ov_history.specs.declared.event.Entry.{Entry}
 use Rattle.ov_sessions.specs.declared.session.Session.{Session}
 use Rattle.ov_history.specs.History.{Keeps, KeepsNewest}
@@ -58,6 +60,10 @@ pub record Extends {K D : Type 0} (old : CoreState K D) (entries : List machine.
 -- no frame was handed out for any session
 abbrev pub none_given : ℕ → List (List ℕ)
 none_given session = []
+
+-- the core has no history: it is as it was opened over some database
+abbrev pub HasNoHistory : {K D : Type 0} → CoreState K D → Type 0
+HasNoHistory core = (schema : Schema) × (database : Database) × Follows (opening schema database) [] none_given core
 
 -- the frames were handed out for the session, after the others
 abbrev pub and_all_handed : (ℕ → List (List ℕ)) → ℕ → List (List ℕ) → ℕ → List (List ℕ)

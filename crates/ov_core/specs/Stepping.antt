@@ -1,17 +1,20 @@
 -- What one step of a core promises.
-use Rattle.std.specs.Prelude.{◌≡◌, ◌⊎◌, ℕ, ◌+◌, ◌<◌, ◌≤◌, [], ◌∷◌, ◌++◌, length, Bool, true, false, is_some}
+use Rattle.std.specs.Prelude.{◌≡◌, ◌⊎◌, ℕ, ◌+◌, ◌<◌, ◌≤◌, [], ◌∷◌, ◌++◌, length, Bool, true, false, Option, is_some}
 use Rattle.ov_specs.specs.machine.Machine as machine
 use Rattle.ov_specs.specs.machine.Machine.{State, is_open}
 use Rattle.ov_specs.specs.machine.Suiting.{draws_uuids}
 use Rattle.ov_specs.specs.values.Uuid.{Uuid}
 use Rattle.ov_keeper.specs.Keeping.{HasFailed}
 use Rattle.ov_requests.specs.Drawing.{DrawsFrom}
-use Rattle.ov_history.specs.Entries.{is_of_store, is_failure, some_outcome}
+use Rattle.ov_history.specs.Entries.{session_in, is_of_store, is_failure, some_outcome}
+use Rattle.ov_history.specs.History.{newest}
+use Rattle.ov_history.specs.declared.event.Entry.{Entry}
 use Rattle.ov_history.specs.declared.event.StepFault.{StepFault}
 use Rattle.ov_history.specs.declared.event.StepFault.TheVariants as fault
 use Rattle.ov_history.specs.declared.event.Stepped.{Stepped}
 use Rattle.ov_history.specs.declared.event.Stepped.TheVariants as answer
 use Rattle.ov_sessions.specs.Sessions.{most_sessions, has_no_room, IsFreeKey}
+use Rattle.ov_sessions.specs.declared.session.Session.{Session}
 use Rattle.ov_core.specs.States.{still_open}
 use Rattle.ov_core.specs.Following.{CoreState, EntersEntry}
 use Rattle.ov_outbox.specs.Frames.{waiting_for, has_queue}
@@ -54,6 +57,19 @@ pub record AsksKeeper {K D : Type 0} (old : CoreState K D) (entry : machine.Entr
   pub failure : has_outcome is_failure entry ≡ true → HasFailed old.failures new.failures
   pub seal : is_some old.state.sealed ≡ false → is_some new.state.sealed ≡ true → HasFailed old.failures new.failures
   pub counts : old.failures ≤ new.failures
+
+-- One entry was appended to those that were kept, and the newest of all are kept. It has this session, key and serial, or none.
+pub record AppendsEntry {K D : Type 0} (session : Option Session) (old new : CoreState K D) : Type 0 where
+  pub entry : Entry
+  pub kept : new.kept ≡ newest (old.kept ++ entry ∷ [])
+  pub same_session : session_in entry.event ≡ session
+
+-- so does each step that is not refused
+abbrev pub StepAppends : {K D : Type 0} → Option Session → CoreState K D → Stepped → CoreState K D → Type 0
+StepAppends session old (answer.Refused fault) new = Unit {0}
+StepAppends session old (answer.Opened opened) new = AppendsEntry session old new
+StepAppends session old answer.Done new = AppendsEntry session old new
+StepAppends session old answer.Closed new = AppendsEntry session old new
 
 -- the entry of an event at the moment, with the identifiers that were drawn from the source (RFC 4122, 4.1.2)
 pub record IsEntered {K D : Type 0} (draws : D → Uuid → D → Type 0) (at : ℕ) (event : machine.Event) (old : CoreState K D) (stepped : Stepped) (new : CoreState K D) : Type 0 where

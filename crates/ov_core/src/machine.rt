@@ -1,18 +1,19 @@
 ghost use Rattle.std.specs.Prelude.{◌≡◌, ◌≢◌, ◌≤◌, ◌-◌, ◌++◌, ℕ, List, [], length, max, true};
 ghost use Rattle.std.specs.Prelude.{false, MatchBool, IfOk, IfErr, IfNone, OnOk, OnErr};
-ghost use Rattle.std.specs.Prelude.{option_to_list};
+ghost use Rattle.std.specs.Prelude.{Some, None, IsTrue, option_to_list};
 ghost use Rattle.ov_specs.specs.rows.Cells.{Stored};
 ghost use Rattle.ov_specs.specs.machine.History.{joined};
 ghost use Rattle.ov_specs.specs.machine.Machine.{State, is_open, due, Open as SpecOpen};
 ghost use Rattle.ov_specs.specs.machine.Machine.{Tick as SpecTick, Take as SpecTake};
 ghost use Rattle.ov_specs.specs.machine.Machine.{Entry as SpecEntry};
-ghost use Rattle.ov_history.specs.Entries.{event_view, cause_view};
+ghost use Rattle.ov_history.specs.Entries.{event_view, cause_view, session_in};
 ghost use Rattle.ov_outbox.specs.Frames.{waiting_for, has_queue};
 ghost use Rattle.ov_history.specs.History.{HasHistory};
 ghost use Rattle.ov_core.specs.Following.{Follows, and_handed, and_all_handed};
 ghost use Rattle.ov_sessions.specs.Sessions.{most_sessions, serial_left};
 ghost use Rattle.ov_history.specs.declared.event.Stepped.TheVariants.{Opened, Done};
 ghost use Rattle.ov_core.specs.Stepping.{StepIs, IsEntered, RefusesStep, Closes};
+ghost use Rattle.ov_core.specs.Stepping.{AppendsEntry, StepAppends};
 ghost use Rattle.ov_core.specs.Passing.{is_due, TicksIf};
 ghost use Rattle.ov_core.specs.Leaving.{LeavesItsOwn};
 ghost use Rattle.ov_db.specs.Committing.{AreKept, MayFind};
@@ -104,6 +105,8 @@ impl<K: Keeper + Drop, D: Draws + Drop> Core<K, D> {
     pub fn step(&mut self, alloc: Global, moment: u64, event: Event<Received>) -> Stepped
         ensures steps { StepIs D.draws (max moment self.old.state.moment) (event_view event)
             self.old result self.new }
+        // The history keeps the event's own session, key and serial, and its other entries as they were.
+        ensures keeps { StepAppends (session_in event) self.old result self.new }
         ensures honest { K.is_honest self.new.keeper → K.is_honest self.old.keeper }
     {
         let moment = moment.max(self.moment);
@@ -133,6 +136,7 @@ impl<K: Keeper + Drop, D: Draws + Drop> Core<K, D> {
         ensures opened { IfOk result
             (λ session. IsEntered D.draws self.old.state.moment SpecOpen self.old (Opened session)
             self.new) }
+        ensures keeps { OnOk result (AppendsEntry None self.old self.new) }
         ensures refused { IfErr result (λ fault. (self.new ≡ self.old)
             × RefusesStep SpecOpen self.old.state fault) }
         ensures honest { K.is_honest self.new.keeper → K.is_honest self.old.keeper }
@@ -146,6 +150,7 @@ impl<K: Keeper + Drop, D: Draws + Drop> Core<K, D> {
     pub fn tick(&mut self, alloc: Global, moment: u64) -> Result<(), StepFault>
         ensures ticked { OnOk result
             (IsEntered D.draws (max moment self.old.state.moment) SpecTick self.old Done self.new) }
+        ensures keeps { OnOk result (AppendsEntry None self.old self.new) }
         ensures refused { IfErr result (λ fault. (self.new ≡ self.old)
             × RefusesStep SpecTick self.old.state fault) }
         ensures honest { K.is_honest self.new.keeper → K.is_honest self.old.keeper }
@@ -179,6 +184,8 @@ impl<K: Keeper + Drop, D: Draws + Drop> Core<K, D> {
         ensures closes { MatchBool result
             (Closes self.old.state.moment session.serial (cause_view cause) self.old self.new)
             ((self.new ≡ self.old) × (is_open self.old.state session.serial ≡ false)) }
+        // The history keeps the session, key and serial.
+        ensures keeps { IsTrue result → AppendsEntry (Some session) self.old self.new }
         ensures honest { K.is_honest self.new.keeper → K.is_honest self.old.keeper }
     {
         let moment = self.moment;
@@ -354,6 +361,7 @@ impl<K: Keeper + Drop, D: Draws + Drop> Core<K, D> {
         requires { self.old.state.moment ≤ moment }
         ensures opened { IfOk result
             (λ session. IsEntered D.draws moment SpecOpen self.old (Opened session) self.new) }
+        ensures keeps { OnOk result (AppendsEntry None self.old self.new) }
         ensures refused { IfErr result (λ fault. (self.new ≡ self.old)
             × RefusesStep SpecOpen self.old.state fault) }
         ensures honest { K.is_honest self.new.keeper → K.is_honest self.old.keeper }
@@ -373,6 +381,7 @@ impl<K: Keeper + Drop, D: Draws + Drop> Core<K, D> {
     fn tick_at(&mut self, alloc: Global, moment: u64) -> Result<(), StepFault>
         requires { self.old.state.moment ≤ moment }
         ensures ticked { OnOk result (IsEntered D.draws moment SpecTick self.old Done self.new) }
+        ensures keeps { OnOk result (AppendsEntry None self.old self.new) }
         ensures refused { IfErr result (λ fault. (self.new ≡ self.old)
             × RefusesStep SpecTick self.old.state fault) }
         ensures honest { K.is_honest self.new.keeper → K.is_honest self.old.keeper }
@@ -397,6 +406,7 @@ impl<K: Keeper + Drop, D: Draws + Drop> Core<K, D> {
         ensures closes { MatchBool result
             (Closes moment session.serial (cause_view cause) self.old self.new)
             ((self.new ≡ self.old) × (is_open self.old.state session.serial ≡ false)) }
+        ensures keeps { IsTrue result → AppendsEntry (Some session) self.old self.new }
         ensures honest { K.is_honest self.new.keeper → K.is_honest self.old.keeper }
     {
         if !self.is_open(session) {
@@ -410,6 +420,7 @@ impl<K: Keeper + Drop, D: Draws + Drop> Core<K, D> {
         requires moment { self.old.state.moment ≤ moment }
         requires open { is_open self.old.state session.serial ≡ true }
         ensures closes { Closes moment session.serial (cause_view cause) self.old self.new }
+        ensures keeps { AppendsEntry (Some session) self.old self.new }
         ensures honest { K.is_honest self.new.keeper → K.is_honest self.old.keeper }
     {
         self.history.push(entry_without_choice(self.alloc, moment, Event::Close(session, cause)));
@@ -422,6 +433,7 @@ impl<K: Keeper + Drop, D: Draws + Drop> Core<K, D> {
         requires { self.old.state.moment ≤ moment }
         ensures steps { StepIs D.draws moment (SpecTake session.serial received) self.old result
             self.new }
+        ensures keeps { StepAppends (Some session) self.old result self.new }
         ensures honest { K.is_honest self.new.keeper → K.is_honest self.old.keeper }
     {
         if !self.is_open(session) {

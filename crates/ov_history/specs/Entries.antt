@@ -3,6 +3,7 @@ use Rattle.std.specs.Prelude.{ℕ, List, [], ◌∷◌, map, Bool, true, false, 
 use Rattle.std.specs.List.{list_any}
 use Rattle.ov_specs.specs.wire.Message.{Message}
 use Rattle.ov_specs.specs.machine.Machine as machine
+use Rattle.ov_sessions.specs.declared.session.Session.{Session}
 use Rattle.ov_history.specs.declared.event.Cause.{Cause}
 use Rattle.ov_history.specs.declared.event.Cause.TheVariants.{InputEnded, ReadFault, WriteFault, Damaged, Overrun, Memory}
 use Rattle.ov_history.specs.declared.event.Event.{Event}
@@ -37,6 +38,13 @@ event_view Open = machine.Open
 event_view (Take session message) = machine.Take session.serial message
 event_view (Close session cause) = machine.Close session.serial (cause_view cause)
 event_view Tick = machine.Tick
+
+-- the session of an event, with its key
+abbrev pub session_in : Event Message → Option Session
+session_in Open = None
+session_in (Take session message) = Some session
+session_in (Close session cause) = Some session
+session_in Tick = None
 
 -- an outcome
 abbrev pub outcome_view : Outcome → machine.Outcome

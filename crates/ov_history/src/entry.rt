@@ -10,12 +10,13 @@ use uuid::Uuid;
 
 /// An entry for which only its moment was chosen. Allocates nothing.
 pub fn entry_without_choice(alloc: Global, moment: u64, event: Event<MessageText>) -> Entry
-    ensures { entry_view result
+    ensures view { entry_view result
         ≡ record {
           event = event_view event;
           choice = record
               { moment = moment; draws = []; outcomes = [] };
         } }
+    ensures event { result.event ≡ event }
 {
     entry_with_choice(alloc, moment, event, Vec::new(alloc), Vec::new(alloc))
 }
@@ -29,12 +30,13 @@ pub fn entry_with_choice(
     draws: Vec<Uuid>,
     attempts: Vec<Attempt>,
 ) -> Entry
-    ensures { entry_view result
+    ensures view { entry_view result
         ≡ record {
           event = event_view event;
           choice = record
               { moment = moment; draws = draws.items; outcomes = map attempt_view attempts.items };
         } }
+    ensures event { result.event ≡ event }
 {
     Entry {
         event,

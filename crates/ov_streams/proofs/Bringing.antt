@@ -1,7 +1,7 @@
 -- How a piece of a session's stream goes into the history.
 use Rattle.std.proofs.Common.{◌≡◌, ℕ, List, [], ◌∷◌, ◌++◌, refl, sym, ap, subst, ◌∙◌, Bool, true, false, Option, Some, None, append_assoc, inr}
 use Rattle.std.proofs.lemmas.List.{append-nil}
-use Rattle.std.proofs.lemmas.Bool.{false≢true}
+use Rattle.std.proofs.lemmas.Bool.{eq-eqb, false≢true}
 use Rattle.ov_specs.specs.wire.Message.{Message, Asked, asked}
 use Rattle.ov_specs.specs.machine.Machine as machine
 use Rattle.ov_specs.specs.machine.Machine.{State, Entry, is_open}
@@ -11,9 +11,22 @@ use Rattle.ov_cut.specs.declared.fault.StreamFault.TheVariants.{Damaged, Memory}
 use Rattle.ov_cut.specs.CutterState.{CutterState}
 use Rattle.ov_cut.specs.Reading.{AreRead, ReadsPiece}
 use Rattle.ov_core.specs.Following.{CoreState, Extends}
-use Rattle.ov_streams.specs.Feeding.{EntersPiece, fed_piece}
+use Rattle.ov_streams.specs.Feeding.{EntersPiece, EntersOwn, fed_piece, is_event_of}
 use Rattle.ov_streams.specs.Entering.{EntersMessages, ClosesByEntry, cause_of_fault}
-use Rattle.ov_streams.proofs.Entering.{by_memory, enters_more}
+use Rattle.ov_streams.proofs.Entering.{by_memory, enters_more, own_more}
+
+module _ {K D : Type 0} (at n : ℕ) (messages : List Message) (old mid : CoreState K D) (all : EntersMessages at n messages old mid) where
+  -- whatever the stream was, the messages were entered in entries of the session alone
+  pub own_messages : EntersOwn n old mid
+  own_messages = record { entries = all.entries; own = all.own; enters = all.enters }
+
+  -- and so was a closing after them
+  pub own_closing : (cause : machine.Cause) (new : CoreState K D) → ClosesByEntry at n cause mid new → EntersOwn n old new
+  own_closing cause new s = record {
+    entries = all.entries ++ s.entry ∷ [];
+    own = own_more n all.entries s.entry all.own (ap (is_event_of n) s.is.event ∙ eq-eqb n n refl);
+    enters = enters_more old mid new all.entries (s.entry ∷ []) all.enters s.adds.enters;
+  }
 
 module _ {K D : Type 0} (at n : ℕ) (stream piece : List ℕ) (messages : List Message) (old mid : CoreState K D) (after : CutterState) (all : EntersMessages at n messages old mid) where
   -- others may follow those that were read, if an allocation failed

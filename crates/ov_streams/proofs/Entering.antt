@@ -1,8 +1,10 @@
 -- How messages of a session go into the history.
 use Rattle.std.proofs.Common.{◌≡◌, ℕ, List, [], ◌∷◌, ◌++◌, refl, sym, ap, subst, ◌∙◌, Bool, true, false, append_assoc, inl, inr, max}
-use Rattle.std.specs.Prelude.{MatchBool}
+use Rattle.std.specs.Prelude.{◌&&◌, MatchBool}
+use Rattle.std.specs.List.{list_all}
 use Rattle.std.proofs.lemmas.List.{append-nil}
-use Rattle.std.proofs.lemmas.Bool.{false≢true}
+use Rattle.std.proofs.lemmas.List.Folds.{list_all-append}
+use Rattle.std.proofs.lemmas.Bool.{eq-eqb, and_from, false≢true}
 use Rattle.ov_specs.specs.wire.Message.{Message}
 use Rattle.ov_specs.specs.machine.Machine as machine
 use Rattle.ov_specs.specs.machine.Machine.{State, Entry, Stepped, is_open}
@@ -17,6 +19,7 @@ use Rattle.ov_core.specs.Following.{CoreState, Follows, Extends}
 use Rattle.ov_core.specs.Stepping.{StepIs, IsEntered}
 use Rattle.ov_core.proofs.Counted.{counts_none, counts_on}
 use Rattle.ov_history.proofs.Histories.{keeps_on}
+use Rattle.ov_streams.specs.Feeding.{is_event_of, is_entry_of}
 use Rattle.ov_streams.specs.Entering.{ExtendsByStep, ClosesByEntry, EntersMessage, EntersMessages}
 
 -- ---- what a step of the core is
@@ -87,16 +90,22 @@ enters_more old mid new entries more one two = record {
   counts = counts_on old mid new entries more one.counts two.counts;
 }
 
+-- one more entry of the session
+pub own_more : (n : ℕ) (entries : List Entry) (entry : Entry) → list_all (is_entry_of n) entries ≡ true → is_entry_of n entry ≡ true → list_all (is_entry_of n) (entries ++ entry ∷ []) ≡ true
+own_more n entries entry own its =
+    list_all-append (is_entry_of n) entries (entry ∷ []) ∙ and_from (list_all (is_entry_of n) entries) (is_entry_of n entry && true) own (and_from (is_entry_of n entry) true its refl)
+
 -- Of all these messages those before the rest were entered. What comes of the rest, whatever follows them, goes on from there.
 pub record EntersSome {K D : Type 0} (at n : ℕ) (all rest : List Message) (first now : CoreState K D) : Type 0 where
   pub entries : List Entry
+  pub own : list_all (is_entry_of n) entries ≡ true
   pub enters : Extends first entries now
   pub goes_on : (others : List Message) (damaged : Bool) (more : List Entry) (last : State)
       → Feeds (delivered at n) now.state (rest ++ others) damaged more last → Feeds (delivered at n) first.state (all ++ others) damaged (entries ++ more) last
 
 -- no message was entered
 pub none_entered : {K D : Type 0} (at n : ℕ) (all rest : List Message) (core : CoreState K D) → rest ≡ all → EntersSome at n all rest core core
-none_entered at n all rest core is = subst (λ (messages : List Message). EntersSome at n all messages core core) (sym is) (record { entries = []; enters = enters_none core; goes_on = λ others damaged more last f. f })
+none_entered at n all rest core is = subst (λ (messages : List Message). EntersSome at n all messages core core) (sym is) (record { entries = []; own = refl; enters = enters_none core; goes_on = λ others damaged more last f. f })
 
 module _ {K D : Type 0} (at n : ℕ) (first now new : CoreState K D) (all rest later : List Message) (message : Message) (is : rest ≡ message ∷ later) (some : EntersSome at n all rest first now) (one : EntersMessage at n message now new) where
   abbrev entries : List Entry
@@ -104,6 +113,12 @@ module _ {K D : Type 0} (at n : ℕ) (first now new : CoreState K D) (all rest l
 
   enters_it : Extends first entries new
   enters_it = enters_more first now new some.entries (one.entry ∷ []) some.enters one.adds.enters
+
+  own_it : list_all (is_entry_of n) entries ≡ true
+  own_it = own_more n some.entries one.entry some.own (elim one.outcome [
+    | inl taken ↦ ap (is_event_of n) taken.event ∙ eq-eqb n n refl
+    | inr (shut, closed) ↦ ap (is_event_of n) closed.event ∙ eq-eqb n n refl
+  ])
 
   -- what comes of the message and of others after it
   with_it : (others : List Message) (damaged : Bool) (more : List Entry) (last : State) → Feeds (delivered at n) now.state (message ∷ (later ++ others)) damaged (one.entry ∷ more) last
@@ -116,6 +131,7 @@ module _ {K D : Type 0} (at n : ℕ) (first now new : CoreState K D) (all rest l
   pub message_entered : is_open new.state n ≡ true → EntersSome at n all later first new
   message_entered there = record {
     entries = entries;
+    own = own_it;
     enters = enters_it;
     goes_on = λ others damaged more last f. elim one.outcome [
       | inl taken ↦
@@ -135,6 +151,7 @@ module _ {K D : Type 0} (at n : ℕ) (first now new : CoreState K D) (all rest l
   pub ended : is_open new.state n ≡ false → EntersMessages at n all first new
   ended away = record {
     entries = entries;
+    own = own_it;
     enters = enters_it;
     goes_on = λ there. absurd (false≢true (sym away ∙ there));
     ends = λ _ others damaged.
@@ -152,6 +169,7 @@ all_entered at n first now all rest none some there =
     let whole : EntersSome at n all [] first now = subst (λ (later : List Message). EntersSome at n all later first now) none some in
     record {
       entries = whole.entries;
+      own = whole.own;
       enters = whole.enters;
       goes_on = λ _. whole.goes_on;
       ends = λ away. absurd (false≢true (sym away ∙ there));

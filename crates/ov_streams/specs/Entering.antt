@@ -1,5 +1,6 @@
 -- What comes of some of the messages of a piece; for private clauses.
 use Rattle.std.specs.Prelude.{◌≡◌, ◌⊎◌, ℕ, ◌++◌, List, [], ◌∷◌, Bool, true, false}
+use Rattle.std.specs.List.{list_all}
 use Rattle.ov_specs.specs.wire.Message.{Message}
 use Rattle.ov_specs.specs.machine.Machine as machine
 use Rattle.ov_specs.specs.machine.Machine.{State, Entry, Stepped, is_open}
@@ -8,6 +9,7 @@ use Rattle.ov_specs.specs.machine.Streams.{Feeds, delivered}
 use Rattle.ov_cut.specs.declared.fault.StreamFault.{StreamFault}
 use Rattle.ov_cut.specs.declared.fault.StreamFault.TheVariants.{Damaged, Memory}
 use Rattle.ov_core.specs.Following.{CoreState, Extends}
+use Rattle.ov_streams.specs.Feeding.{is_entry_of}
 
 -- one entry was entered, which is a step of the machine to the core's state
 pub record ExtendsByStep {K D : Type 0} (old : CoreState K D) (entry : Entry) (step : Stepped) (new : CoreState K D) : Type 0 where
@@ -33,6 +35,7 @@ pub record EntersMessage {K D : Type 0} (at n : ℕ) (message : Message) (old ne
 -- on from here; otherwise nothing comes of them.
 pub record EntersMessages {K D : Type 0} (at n : ℕ) (messages : List Message) (old new : CoreState K D) : Type 0 where
   pub entries : List Entry
+  pub own : list_all (is_entry_of n) entries ≡ true
   pub enters : Extends old entries new
   pub goes_on : is_open new.state n ≡ true → (others : List Message) (damaged : Bool) (more : List Entry) (last : State)
       → Feeds (delivered at n) new.state others damaged more last → Feeds (delivered at n) old.state (messages ++ others) damaged (entries ++ more) last

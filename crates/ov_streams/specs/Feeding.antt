@@ -1,6 +1,8 @@
 -- What comes of a piece of an open session's stream.
-use Rattle.std.specs.Prelude.{◌≡◌, ℕ, ◌++◌, List, true}
+use Rattle.std.specs.Prelude.{◌≡◌, ℕ, ◌==◌, ◌++◌, List, Bool, true, false}
+use Rattle.std.specs.List.{list_all}
 use Rattle.ov_specs.specs.wire.Message.{Message, asked}
+use Rattle.ov_specs.specs.machine.Machine as machine
 use Rattle.ov_specs.specs.machine.Machine.{Entry, is_open}
 use Rattle.ov_specs.specs.machine.Streams.{Feeds, delivered}
 use Rattle.ov_cut.specs.CutterState.{CutterState}
@@ -16,6 +18,23 @@ pub record FedPiece : Type 0 where
 -- this session's, after this stream, of these bytes
 abbrev pub fed_piece : ℕ → List ℕ → List ℕ → FedPiece
 fed_piece session stream bytes = record { session = session; stream = stream; bytes = bytes }
+
+-- a message of the session was taken, or it was closed
+abbrev pub is_event_of : ℕ → machine.Event → Bool
+is_event_of session machine.Open = false
+is_event_of session (machine.Take other message) = other == session
+is_event_of session (machine.Close other cause) = other == session
+is_event_of session machine.Tick = false
+
+-- so it was by this entry
+abbrev pub is_entry_of : ℕ → Entry → Bool
+is_entry_of session entry = is_event_of session entry.event
+
+-- entries of this session alone were entered
+pub record EntersOwn {K D : Type 0} (session : ℕ) (old new : CoreState K D) : Type 0 where
+  pub entries : List Entry
+  pub own : list_all (is_entry_of session) entries ≡ true
+  pub enters : Extends old entries new
 
 -- The messages that the piece ends were entered, and then damage, if it is new. If the session is still open, the cutter was
 -- given the longer stream.

@@ -2,7 +2,7 @@ ghost use Rattle.std.specs.Prelude.{◌≡◌, ℕ, List, true};
 ghost use Rattle.ov_specs.specs.machine.Machine.{is_open};
 ghost use Rattle.ov_history.specs.Entries.{cause_view};
 ghost use Rattle.ov_cut.specs.Reading.{IsFed};
-ghost use Rattle.ov_streams.specs.Feeding.{EntersPiece, fed_piece};
+ghost use Rattle.ov_streams.specs.Feeding.{EntersPiece, EntersOwn, fed_piece};
 ghost use Rattle.ov_streams.specs.Entering.{EntersMessages, EntersMessage, ClosesByEntry};
 ghost use Rattle.ov_streams.specs.Entering.{cause_of_fault};
 
@@ -15,6 +15,9 @@ use std::alloc::Global;
 
 /// Enters the messages that a piece of the open session's stream ends, at the moment or at the last one if that is later,
 /// and then closes the session as Damaged if the stream is damaged. Closes it as Memory if an allocation fails.
+///
+/// The cutter has to be the one that was given the session's stream, which was not damaged before. With any other, messages
+/// that the cutter finds may be entered, and the session may be closed, but nothing of another session is entered.
 pub fn feed_session<K: Keeper + Drop, D: Draws + Drop>(
     core: &mut Core<K, D>,
     alloc: Global,
@@ -27,6 +30,8 @@ pub fn feed_session<K: Keeper + Drop, D: Draws + Drop>(
     ensures enters { (stream : List ℕ) → IsFed stream cutter.old
         → EntersPiece moment (fed_piece session.serial stream piece.now) core.old core.new
         cutter.new }
+    // Whatever the cutter was given, entries of this session alone are entered.
+    ensures own { EntersOwn session.serial core.old core.new }
     ensures honest { K.is_honest core.new.keeper → K.is_honest core.old.keeper }
 {
     let PieceRead { messages, fault } = cutter.read(alloc, piece);

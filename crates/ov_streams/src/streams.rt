@@ -7,7 +7,7 @@ ghost use Rattle.ov_specs.specs.schema.SchemaTypes.{Schema};
 ghost use Rattle.ov_specs.specs.rows.Database.{Database};
 ghost use Rattle.ov_specs.specs.machine.History.{joined};
 ghost use Rattle.ov_specs.specs.machine.Streams.{StreamEvent as SpecEvent};
-ghost use Rattle.ov_core.specs.Following.{Follows, none_given, and_all_handed};
+ghost use Rattle.ov_core.specs.Following.{Follows, HasNoHistory, none_given, and_all_handed};
 ghost use Rattle.ov_outbox.specs.Frames.{waiting_for};
 ghost use Rattle.ov_core.specs.Stepping.{RefusesStep};
 ghost use Rattle.ov_streams.specs.Running.{FollowsEvents, RunsEvents, RefusesEvent};
@@ -49,6 +49,7 @@ impl<K: Keeper, D> Model for Streams<K, D> {
 impl<K: Keeper + Drop, D: Draws + Drop> Streams<K, D> {
     /// Streams over a core without history.
     pub fn new(alloc: Global, core: Core<K, D>) -> Streams<K, D>
+        requires { HasNoHistory core }
         ensures same { result.core ≡ core }
         // The empty list of events suits it.
         ensures none { (schema : Schema) (database : Database)

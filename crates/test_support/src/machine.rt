@@ -1,3 +1,6 @@
+ghost use Rattle.std.specs.Prelude.{IfOk};
+ghost use Rattle.ov_core.specs.Following.{HasNoHistory};
+
 use crate::texts::{fact_text, number_or_none, number_text, push_number, session_of, step_word};
 use ov_base::Bytes;
 use ov_core::{Cause, Core, Event, Session, Stepped};
@@ -10,7 +13,9 @@ use test_basics::{Counter, Faults, NetKeeper, Scripted, agrees, net, net_keeper}
 pub type NetCore = Core<NetKeeper, Counter>;
 
 /// The machine over a new database Net, whose keeper fails as `faults` says.
-pub fn net_core(alloc: Global, faults: Faults) -> Result<NetCore, Fail> {
+pub fn net_core(alloc: Global, faults: Faults) -> Result<NetCore, Fail>
+    ensures { IfOk result HasNoHistory }
+{
     let keeper = net_keeper(alloc, faults)?;
     let schema = net(alloc)?;
     Ok(Core::open(alloc, keeper, schema, Counter::new())?)

@@ -1,5 +1,6 @@
 use Rattle.std.proofs.Common.{◌≤◌, ◌∙◌, refl, rules, sym, ap, arith}
 use Rattle.ov_sessions.specs.Sessions.{has_no_room}
+use Rattle.ov_history.specs.Entries.{session_in}
 use Rattle.ov_core.proofs.Steps.{asks_nothing, opened, has_opened, nothing_chosen, entry_of}
 use Rattle.ov_core.proofs.Watching.{length-sessions}
 use Rattle.ov_specs.specs.machine.Machine.{Open}
@@ -18,17 +19,20 @@ returns-clause-opened g c =
       moment = refl;
       drawn = refl;
       uuids = refl;
-      moves = opened g.K.Keeper.failed c.in-Ok.session live c.open.new.self c.self.inside.moment c.args.moment o c.self.inside.history c.push.new.self c.entry_without_choice.result c.self.inside.source low c.push.ensures c.entry_without_choice.ensures;
+      moves = opened g.K.Keeper.failed c.in-Ok.session live c.open.new.self c.self.inside.moment c.args.moment o c.self.inside.history c.push.new.self c.entry_without_choice.result c.self.inside.source low c.push.ensures c.entry_without_choice.ensures.view;
       asks = asks_nothing _ _ _ refl (rw o.same refl, rw o.same refl) (rw o.same refl);
       tries = rw o.same (omega arith);
       few = rw o.same (omega arith);
     })
+
+pub returns-clause-keeps : goal.returns-clause-keeps
+returns-clause-keeps g c = rw (← c.self.view_is) (record { entry = c.entry_without_choice.result; kept = c.push.ensures; same_session = ap session_in c.entry_without_choice.ensures.event })
 
 pub invariant_of-self-2 : goal.invariant_of-self-2
 invariant_of-self-2 g c =
     let low : c.self.inside.moment ≤ c.args.moment = search rules in
     let live = c.self.inside.live in
     let o = c.in-Ok.ensures.opened in (
-      has_opened g.K.Keeper.failed c.in-Ok.session live c.open.new.self c.self.inside.moment c.args.moment o c.self.inside.history c.push.new.self c.entry_without_choice.result low c.push.ensures c.entry_without_choice.ensures c.self.invariant.0,
+      has_opened g.K.Keeper.failed c.in-Ok.session live c.open.new.self c.self.inside.moment c.args.moment o c.self.inside.history c.push.new.self c.entry_without_choice.result low c.push.ensures c.entry_without_choice.ensures.view c.self.invariant.0,
       rw o.same c.self.invariant.1,
     )

@@ -7,3 +7,6 @@ pub returns-then-close_at-clause-steps : goal.returns-then-close_at-clause-steps
 returns-then-close_at-clause-steps g c =
     let at : c.max-moment.result ≡ max c.args.moment c.args.self.now.state.moment = c.max-moment.ensures ∙ ap (λ (r : CoreState _ _). max c.args.moment r.state.moment) c.self.view_is in
     rw (c.in-Close.is, ← at) (closed_as_asked _ _ _ _ _ _ c.if-close_at.ensures.closes)
+
+pub returns-then-close_at-clause-keeps : goal.returns-then-close_at-clause-keeps
+returns-then-close_at-clause-keeps g c = rw c.in-Close.is (c.if-close_at.ensures.keeps c.if-close_at.true)
