@@ -6,14 +6,18 @@ use Rattle.std.specs.FinMap.{empty, find, is_sorted, get, insert, entries, entri
 use Rattle.std.specs.FinMap.Entries.{below_all}
 use Rattle.serde_json.specs.Data.{Data}
 use Rattle.ov_specs.specs.rows.Database.{Columns}
-use Rattle.ov_specs.specs.rows.Held.{all_results, row_if_stored, row_of_body, value_held}
+use Rattle.ov_specs.specs.rows.Held.{Body, all_results, is_stored_as, row_if_stored, row_of_body, value_held}
 use Rattle.ov_specs.specs.rows.RowNames.{is_own_column, row_columns}
 use Rattle.ov_specs.specs.schema.SchemaTypes.{Column, Table, name_cmp}
 use Rattle.ov_specs.specs.values.Reading.{in_front}
+use Rattle.ov_specs.specs.values.Uuid.{Uuid}
 use Rattle.ov_specs.specs.values.Value.{Datum}
 use Rattle.ov_specs.proofs.laws.Names.{name_cmp_total, name_exact, same_name, find-first_not_later, sorted_rest}
 use Rattle.ov_specs.proofs.laws.Truths.{both_hold, left_holds, right_holds}
-use Rattle.ov_db.specs.Stored.{RowBody, columns_by, row_of_table, value_by, value_from}
+use Rattle.ov_db.specs.declared.fault.OpenFault.{OpenFault}
+use Rattle.ov_db.specs.declared.fault.OpenFault.TheVariants.{SchemaDiffers, BadBody, Broken, TypeChanged, NotConvertible, Keeping}
+use Rattle.ov_db.specs.Loading.{IsNotLoaded}
+use Rattle.ov_db.specs.Stored.{columns_by, columns_stored, value_by, value_from}
 
 abbrev Values : Type 0
 Values = List (List ℕ × Datum)
@@ -124,9 +128,24 @@ module _ (tree_at : List ℕ → Option Data) where
 
 -- ---- the row
 
-pub row_of_table_is : (table : Table) (stored : RowBody) → row_of_table table stored ≡ row_of_body table stored.0 stored.1
-row_of_table_is table stored = by (all_results (value_held stored.1) (row_columns table))
+pub row_of_columns : (table : Table) (version : Uuid) (body : Body) → row_of_body table version body ≡ option_and_then (row_if_stored version body) (columns_stored body table)
+row_of_columns table version body = by (all_results (value_held body) (row_columns table))
   where
-    by : (o : Option Values) → option_and_then (row_if_stored stored.0 stored.1) (option_map from_entries o) ≡ option_and_then (λ values. row_if_stored stored.0 stored.1 (from_entries values)) o
+    by : (o : Option Values) → option_and_then (λ values. row_if_stored version body (from_entries values)) o ≡ option_and_then (row_if_stored version body) (option_map from_entries o)
     by None = refl
     by (Some vs) = refl
+
+-- without the columns there is no row
+pub no_row : (table : Table) (version : Uuid) (body : Body) (fault : OpenFault) → IsNotLoaded (columns_stored body table) fault → IsNotLoaded (row_of_body table version body) fault
+no_row table version body BadBody is = row_of_columns table version body ∙ ap (option_and_then (row_if_stored version body)) is
+no_row table version body (Keeping fault) is = is
+no_row table version body SchemaDiffers is = is
+no_row table version body Broken is = is
+no_row table version body TypeChanged is = is
+no_row table version body NotConvertible is = is
+
+-- with them there is one if they are stored as exactly this
+pub row_if : (table : Table) (version : Uuid) (body : Body) (columns : Columns) (b : Bool) → columns_stored body table ≡ Some columns → is_stored_as columns body ≡ b
+    → row_of_body table version body ≡ cond b (Some (record { version = version; columns = columns })) None
+row_if table version body columns b stored is =
+    row_of_columns table version body ∙ ap (option_and_then (row_if_stored version body)) stored ∙ ap (λ t. cond t (Some (record { version = version; columns = columns })) None) is

@@ -11,7 +11,7 @@ use Rattle.serde_json.specs.Written.{compact_text}
 use Rattle.ov_specs.specs.rows.RowNames.{is_own_column}
 use Rattle.ov_specs.specs.rows.Database.{Columns}
 use Rattle.ov_specs.specs.rows.Cells.{Cells, cells_of}
-use Rattle.ov_specs.specs.rows.Held.{OneText, OfCells, tree_stored}
+use Rattle.ov_specs.specs.rows.Held.{OneText, OfCells, row_of_body, tree_stored}
 use Rattle.ov_specs.specs.rows.RowNames.{row_names, without_own}
 use Rattle.ov_specs.specs.rows.Suits.{is_value_for, suits_column, SuitsTable}
 use Rattle.ov_specs.specs.schema.SchemaTypes.{Column, Table, name_cmp}
@@ -26,7 +26,7 @@ use Rattle.ov_rows.specs.Body.{body_of, AreOfKinds}
 use Rattle.ov_rows.specs.Named.{alone, DoAscend}
 use Rattle.ov_rows.proofs.Names.{zip-entries}
 use Rattle.ov_db.specs.Guessed.{are_values_for}
-use Rattle.ov_db.specs.Stored.{AreCellsRead, row_of_table}
+use Rattle.ov_db.specs.Stored.{AreCellsRead}
 use Rattle.ov_db.proofs.ReadsBack.{cells_are_stored, row_is_stored, values_of_kinds}
 use Rattle.ov_db.proofs.Same.{text-same}
 
@@ -151,7 +151,7 @@ module _ (table : Table) (columns : Columns) (named : keys columns ≡ row_names
   -- ---- the row that the line is
 
   pub guessed_row : (version : Uuid) (text : List ℕ) → compact_text (body_of columns) ≡ text → (AreOfKinds columns → tree_of text ≡ Some (body_of columns))
-      → row_of_table table (version, OneText text) ≡ Some (record { version = version; columns = columns })
+      → row_of_body table version (OneText text) ≡ Some (record { version = version; columns = columns })
   guessed_row version text is read = row_is_stored table version columns (OneText text) guessed_suit holds (ap (bytes_eq (compact_text (body_of columns))) (sym is) ∙ text-same (compact_text (body_of columns)))
     where
       holds : (name : List ℕ) (datum : Datum) → get columns name ≡ Some datum → tree_stored (OneText text) name ≡ Some (tree datum)
@@ -159,5 +159,5 @@ module _ (table : Table) (columns : Columns) (named : keys columns ≡ row_names
 
   -- ---- the row that the cells are
 
-  pub guessed_cells : (version : Uuid) (cells : Cells) → cells ≡ cells_of columns → AreCellsRead columns → row_of_table table (version, OfCells cells) ≡ Some (record { version = version; columns = columns })
-  guessed_cells version cells is read = ap (λ (c : Cells). row_of_table table (version, OfCells c)) is ∙ cells_are_stored table version columns guessed_suit read
+  pub guessed_cells : (version : Uuid) (cells : Cells) → cells ≡ cells_of columns → AreCellsRead columns → row_of_body table version (OfCells cells) ≡ Some (record { version = version; columns = columns })
+  guessed_cells version cells is read = ap (λ (c : Cells). row_of_body table version (OfCells c)) is ∙ cells_are_stored table version columns guessed_suit read

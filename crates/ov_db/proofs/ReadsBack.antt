@@ -19,8 +19,8 @@ use Rattle.ov_specs.proofs.laws.Names.{name_cmp_total, name_exact, same_name, sa
 use Rattle.ov_specs.proofs.laws.ReadingBack.{reads-tree}
 use Rattle.ov_rows.specs.Body.{AreOfKinds}
 use Rattle.ov_specs.specs.wire.Message.{tree_of}
-use Rattle.ov_db.specs.Stored.{AreCellsRead, columns_stored, row_cells, row_of_table, row_stored, value_stored}
-use Rattle.ov_db.proofs.BodyRows.{added_by, columns_added, row_of_table_is}
+use Rattle.ov_db.specs.Stored.{AreCellsRead, columns_stored, row_cells, row_stored, value_stored}
+use Rattle.ov_db.proofs.BodyRows.{added_by, columns_added, row_of_columns}
 use Rattle.ov_db.proofs.CellMaps.{are_stored, get-cells_of}
 
 -- ---- one value
@@ -139,16 +139,16 @@ values_of_kinds table columns suits name datum is = by (column_of_row table name
 
 -- a row of a table, stored as its columns are
 pub row_is_stored : (table : Table) (version : Uuid) (columns : Columns) (body : Body) → SuitsTable table columns → ((name : List ℕ) (datum : Datum) → get columns name ≡ Some datum → tree_stored body name ≡ Some (tree datum))
-    → is_stored_as columns body ≡ true → row_of_table table (version, body) ≡ Some (record { version = version; columns = columns })
+    → is_stored_as columns body ≡ true → row_of_body table version body ≡ Some (record { version = version; columns = columns })
 row_is_stored table version columns body suits holds exact =
-    ap (option_and_then (row_if_stored version body)) (columns_are_stored table columns suits body holds) ∙ ap (λ b. cond b (Some row) None) exact
+    row_of_columns table version body ∙ ap (option_and_then (row_if_stored version body)) (columns_are_stored table columns suits body holds) ∙ ap (λ b. cond b (Some row) None) exact
   where
     row : Row
     row = record { version = version; columns = columns }
 
 -- a row of a table, stored as its cells, if these read back as written
 pub cells_are_stored : (table : Table) (version : Uuid) (columns : Columns) → SuitsTable table columns → AreCellsRead columns
-    → row_of_table table (version, OfCells (cells_of columns)) ≡ Some (record { version = version; columns = columns })
+    → row_of_body table version (OfCells (cells_of columns)) ≡ Some (record { version = version; columns = columns })
 cells_are_stored table version columns suits read = row_is_stored table version columns body suits holds (are_stored columns)
   where
     body : Body
@@ -163,4 +163,4 @@ cells_are_stored table version columns suits read = row_is_stored table version 
 pub reads_back : (schema : Schema) (key : LineKey) (row : Row) → SuitsRow schema key row → AreCellsRead row.columns → row_stored schema key (row_cells row) ≡ Some row
 reads_back schema key row suits read =
     ap (option_and_then (λ (table : Table). row_of_body table row.version (OfCells (cells_of row.columns)))) suits.named
-    ∙ sym (row_of_table_is suits.table (row.version, OfCells (cells_of row.columns))) ∙ cells_are_stored suits.table row.version row.columns suits.columns read
+    ∙ cells_are_stored suits.table row.version row.columns suits.columns read

@@ -18,8 +18,8 @@ use Rattle.ov_specs.specs.values.Value.{Datum, is_of}
 use Rattle.ov_specs.proofs.laws.Names.{each_entry}
 use Rattle.ov_specs.proofs.laws.OfKinds.{reads_is_of}
 use Rattle.ov_specs.proofs.laws.SuitingColumns.{no_uuids, IsGiven, column_is, SuitsSoFar, none_suits, one_more_suits, Completes, passed, added, StandIn, complete_suits}
-use Rattle.ov_db.specs.Stored.{RowBody, columns_stored, row_of_table, row_stored, value_stored}
-use Rattle.ov_db.proofs.BodyRows.{added_by, columns_added, row_of_table_is}
+use Rattle.ov_db.specs.Stored.{RowBody, columns_stored, row_stored, value_stored}
+use Rattle.ov_db.proofs.BodyRows.{added_by, columns_added, row_of_columns}
 
 -- ---- one value
 
@@ -71,8 +71,8 @@ module _ (table : Table) (body : Body) where
 abbrev IsOfTable : Table → RowBody → Row → Type 0
 IsOfTable table stored row = (row.version ≡ stored.0) × SuitsTable table row.columns
 
-row_of_table_suits : (table : Table) (stored : RowBody) (row : Row) → row_of_table table stored ≡ Some row → IsOfTable table stored row
-row_of_table_suits table stored row h = by_columns (columns_stored stored.1 table) refl h
+row_of_body_suits : (table : Table) (stored : RowBody) (row : Row) → row_of_body table stored.0 stored.1 ≡ Some row → IsOfTable table stored row
+row_of_body_suits table stored row h = by_columns (columns_stored stored.1 table) refl (sym (row_of_columns table stored.0 stored.1) ∙ h)
   where
     by_test : (columns : Columns) (b : Bool) → SuitsTable table columns → cond b (Some (record { version = stored.0; columns = columns })) None ≡ Some row → IsOfTable table stored row
     by_test columns true suits k =
@@ -91,5 +91,5 @@ stored_row_suits schema key stored row id version h = by (get schema.tables key.
     by : (o : Option Table) → get schema.tables key.0 ≡ o → option_and_then (λ table. row_of_body table stored.0 stored.1) o ≡ Some row → SuitsRow schema key row
     by None is k = cc
     by (Some table) is k =
-        let of = row_of_table_suits table stored row (row_of_table_is table stored ∙ k) in
+        let of = row_of_body_suits table stored row k in
         record { table = table; named = is; id = id; version = ap is_uuid of.0 ∙ version; columns = of.1 }

@@ -5,7 +5,7 @@ use Rattle.serde_json.specs.Data.{Data}
 use Rattle.serde_json.specs.Find as find
 use Rattle.ov_specs.specs.rows.Cells.{cell_body, cells_of}
 use Rattle.ov_specs.specs.rows.Database.{Columns, Row, Database}
-use Rattle.ov_specs.specs.rows.Held.{Body, OfCells, all_results, if_fits, row_if_stored, row_of_body, tree_stored}
+use Rattle.ov_specs.specs.rows.Held.{Body, OfCells, all_results, if_fits, row_of_body, tree_stored}
 use Rattle.ov_specs.specs.rows.Lines.{LineKey}
 use Rattle.ov_specs.specs.rows.RowNames.{row_columns}
 use Rattle.ov_specs.specs.rows.Suits.{Suits}
@@ -82,7 +82,3 @@ columns_stored body table = columns_by (tree_stored body) table
 -- the members of a tree, if there is one
 abbrev pub trees_in : Option Data → List ℕ → Option Data
 trees_in body name = option_and_then (find.get name) body
-
--- the row of a table that is stored as this, as in `row_of_body`
-abbrev pub row_of_table : Table → RowBody → Option Row
-row_of_table table stored = option_and_then (row_if_stored stored.0 stored.1) (columns_stored stored.1 table)

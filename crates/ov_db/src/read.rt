@@ -1,12 +1,12 @@
 ghost use Rattle.std.specs.Prelude.{◌≡◌, IfOk, IfErr, Some, option_map};
 ghost use Rattle.serde_json.specs.View.{view};
-ghost use Rattle.ov_specs.specs.rows.Held.{OneText};
+ghost use Rattle.ov_specs.specs.rows.Held.{OneText, row_of_body};
 ghost use Rattle.ov_specs.specs.rows.Suits.{is_value_for};
 ghost use Rattle.ov_specs.specs.wire.Message.{tree_of};
 ghost use Rattle.ov_keeper.specs.declared.fault.KeepFault.TheVariants.{Memory};
 ghost use Rattle.ov_db.specs.Loading.{IsLoaded, whole_entry};
 ghost use Rattle.ov_db.specs.Guessed.{are_values_for};
-ghost use Rattle.ov_db.specs.Stored.{columns_by, columns_stored, row_of_table, row_stored};
+ghost use Rattle.ov_db.specs.Stored.{columns_by, columns_stored, row_stored};
 ghost use Rattle.ov_db.specs.Stored.{trees_in, value_from};
 ghost use Rattle.ov_db.specs.declared.fault.OpenFault.TheVariants.{Keeping};
 
@@ -51,7 +51,8 @@ fn row_of_table(
     table: &Table,
     line: &Line,
 ) -> Result<Row, OpenFault>
-    ensures { IsLoaded (λ row. row) (row_of_table table.now (whole_entry line.now).1) result }
+    ensures { IsLoaded (λ row. row) (row_of_body table.now line.now.version
+        (OneText line.now.body)) result }
 {
     match row_by_guess(alloc, reader, table, line) {
         Ok(row) => Ok(row),
@@ -68,7 +69,8 @@ fn row_by_guess(
     table: &Table,
     line: &Line,
 ) -> Result<Row, AtomFault>
-    ensures { IfOk result (λ row. row_of_table table.now (whole_entry line.now).1 ≡ Some row) }
+    ensures { IfOk result (λ row. row_of_body table.now line.now.version (OneText line.now.body)
+        ≡ Some row) }
 {
     let columns = reader.columns(alloc, table.names_of_row(), line.body.as_slice())?;
     if !are_values_for(table, columns.values()) {
@@ -108,7 +110,8 @@ fn is_value_for(column: &Column, datum: &Datum) -> bool
 
 /// The row of a table that a stored line holds, read from the tree of its body.
 fn row_in_full(alloc: Global, table: &Table, line: &Line) -> Result<Row, OpenFault>
-    ensures { IsLoaded (λ row. row) (row_of_table table.now (whole_entry line.now).1) result }
+    ensures { IsLoaded (λ row. row) (row_of_body table.now line.now.version
+        (OneText line.now.body)) result }
 {
     let columns = columns_of(alloc, table, line.body.as_slice())?;
     let row = Row {

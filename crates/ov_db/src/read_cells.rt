@@ -2,10 +2,10 @@ ghost use Rattle.std.specs.Prelude.{◌≡◌, IfOk, Some};
 ghost use Rattle.std.specs.FinMap.{keys};
 ghost use Rattle.ov_rows.specs.Named.{DoAscend};
 ghost use Rattle.ov_specs.specs.rows.Cells.{cells_of};
-ghost use Rattle.ov_specs.specs.rows.Held.{OfCells};
+ghost use Rattle.ov_specs.specs.rows.Held.{OfCells, row_of_body};
 ghost use Rattle.ov_keeper.specs.Views.{cells_view};
 ghost use Rattle.ov_db.specs.Loading.{IsLoaded, cells_entry};
-ghost use Rattle.ov_db.specs.Stored.{AreCellsRead, columns_stored, row_of_table, row_stored};
+ghost use Rattle.ov_db.specs.Stored.{AreCellsRead, columns_stored, row_stored};
 ghost use Rattle.ov_db.specs.Stored.{value_stored};
 
 use crate::cells::{are_cells_of, are_same, body_at, cells_of};
@@ -45,7 +45,8 @@ fn row_in_cells(
     table: &Table,
     line: &CellLine,
 ) -> Result<Row, OpenFault>
-    ensures { IsLoaded (λ row. row) (row_of_table table.now (cells_entry line.now).1) result }
+    ensures { IsLoaded (λ row. row) (row_of_body table.now line.now.version
+        (OfCells (cells_view line.now.cells.items))) result }
 {
     match cells_by_guess(alloc, reader, table, line) {
         Ok(row) => Ok(row),
@@ -62,7 +63,8 @@ fn cells_by_guess(
     table: &Table,
     line: &CellLine,
 ) -> Result<Row, AtomFault>
-    ensures { IfOk result (λ row. row_of_table table.now (cells_entry line.now).1 ≡ Some row) }
+    ensures { IfOk result (λ row. row_of_body table.now line.now.version
+        (OfCells (cells_view line.now.cells.items)) ≡ Some row) }
 {
     let columns = guessed_columns(alloc, reader, table.names_of_row(), line.cells.as_slice())?;
     if !are_values_for(table, columns.values()) {
@@ -117,7 +119,8 @@ fn text_of_cells(alloc: Global, cells: &[Cell]) -> Result<Vec<u8>, AllocError> {
 
 /// The row of a table that is stored as these cells, in any order.
 fn cells_in_full(alloc: Global, table: &Table, line: &CellLine) -> Result<Row, OpenFault>
-    ensures { IsLoaded (λ row. row) (row_of_table table.now (cells_entry line.now).1) result }
+    ensures { IsLoaded (λ row. row) (row_of_body table.now line.now.version
+        (OfCells (cells_view line.now.cells.items))) result }
 {
     let columns = columns_in_cells(alloc, table, line.cells.as_slice())?;
     let written = cells_of(alloc, &columns)?;

@@ -1,31 +1,15 @@
-use Rattle.std.proofs.Common.{rules, ◌≡◌, List, Bool, true, false, cond, Some, None, option_and_then, sym, ap, subst, ◌∙◌}
+use Rattle.std.proofs.Common.{rules, ◌≡◌, List, true, false, sym, ap, subst, ◌∙◌}
 use Rattle.std.proofs.lemmas.Result.{err_from_is_err_and}
 use Rattle.std.specs.Cmp.Lexicographic.{pointwise}
 use Rattle.std.specs.FinMap.{entries}
 use Rattle.ov_specs.specs.rows.Cells.{Cells}
-use Rattle.ov_specs.specs.rows.Database.{Columns}
-use Rattle.ov_specs.specs.rows.Held.{Body, OfCells, is_stored_as, row_if_stored, same_cell}
-use Rattle.ov_specs.specs.schema.SchemaTypes.{Table}
-use Rattle.ov_specs.specs.values.Uuid.{Uuid}
+use Rattle.ov_specs.specs.rows.Held.{OfCells, same_cell}
 use Rattle.ov_keeper.specs.declared.cell_line.Cell.{Cell}
 use Rattle.ov_keeper.specs.Views.{cells_view}
-use Rattle.ov_db.specs.declared.fault.OpenFault.{OpenFault}
-use Rattle.ov_db.specs.declared.fault.OpenFault.TheVariants.{SchemaDiffers, BadBody, Broken, TypeChanged, NotConvertible, Keeping}
 use Rattle.ov_db.specs.Loading.{IsNotLoaded}
-use Rattle.ov_db.specs.Stored.{columns_stored, row_of_table}
+use Rattle.ov_db.specs.Stored.{columns_stored}
+use Rattle.ov_db.proofs.BodyRows.{no_row, row_if}
 use Rattle.ov_db.proofs.read_cells.cells_in_full.Goals as goal
-
-no_row : (table : Table) (version : Uuid) (body : Body) (fault : OpenFault) → IsNotLoaded (columns_stored body table) fault → IsNotLoaded (row_of_table table (version, body)) fault
-no_row table version body BadBody is = ap (option_and_then (row_if_stored version body)) is
-no_row table version body (Keeping fault) is = is
-no_row table version body SchemaDiffers is = is
-no_row table version body Broken is = is
-no_row table version body TypeChanged is = is
-no_row table version body NotConvertible is = is
-
-row_if : (table : Table) (version : Uuid) (body : Body) (columns : Columns) (b : Bool) → columns_stored body table ≡ Some columns → is_stored_as columns body ≡ b
-    → row_of_table table (version, body) ≡ cond b (Some (record { version = version; columns = columns })) None
-row_if table version body columns b stored is = ap (option_and_then (row_if_stored version body)) stored ∙ ap (λ t. cond t (Some (record { version = version; columns = columns })) None) is
 
 pub returns-in_err-columns : goal.returns-in_err-columns
 returns-in_err-columns c =
