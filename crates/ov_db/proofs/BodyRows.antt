@@ -1,4 +1,4 @@
--- The columns of a table with the values of their trees, added one by one, are all together.
+-- A table's columns, each with the value of its tree, are the same if they are added one by one; and the row with them.
 use Rattle.std.proofs.Common.{◌≡◌, ℕ, List, [], ◌∷◌, Bool, true, false, cond, T, Option, Some, None, option_map, option_and_then, refl, sym, ap, subst, ◌∙◌}
 use Rattle.std.specs.Prelude.{not, if◌then◌else◌}
 use Rattle.std.specs.List.{filter}

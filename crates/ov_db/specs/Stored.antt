@@ -67,7 +67,7 @@ value_from found column = option_and_then (λ d. if_fits column (reads no_names 
 abbrev pub value_stored : Body → List ℕ × Column → Option Datum
 value_stored body c = value_from (tree_stored body c.0) c.1
 
--- the value of the tree of a column's name, with the name
+-- the value that the tree of a column's name is for the column, with the name
 abbrev pub value_by : (List ℕ → Option Data) → List ℕ × Column → Option (List ℕ × Datum)
 value_by tree_at c = option_map (λ datum. (c.0, datum)) (value_from (tree_at c.0) c.1)
 

@@ -128,8 +128,7 @@ fn row_in_full(alloc: Global, table: &Table, line: &Line) -> Result<Row, OpenFau
 
 /// All columns of the table except those that every row has by itself, each with its value from the text.
 fn columns_of(alloc: Global, table: &Table, text: &[u8]) -> Result<Columns, OpenFault>
-    ensures { IsLoaded (λ columns. columns) (columns_stored (OneText text.now)
-        table.now) result }
+    ensures { IsLoaded (λ columns. columns) (columns_stored (OneText text.now) table.now) result }
 {
     let body = tree_of(alloc, text)?;
     let values = values_of(alloc, table, &body)?;
