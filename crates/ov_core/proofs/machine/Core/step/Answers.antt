@@ -9,4 +9,4 @@ returns-then-close_at-clause-steps g c =
     rw (c.in-Close.is, ← at) (closed_as_asked _ _ _ _ _ _ c.if-close_at.ensures.closes)
 
 pub returns-then-close_at-clause-keeps : goal.returns-then-close_at-clause-keeps
-returns-then-close_at-clause-keeps g c = rw c.in-Close.is (c.if-close_at.ensures.keeps c.if-close_at.true)
+returns-then-close_at-clause-keeps g c = rw c.in-Close.is (c.close_at.ensures.keeps c.if-close_at.true)
