@@ -27,7 +27,7 @@ use Rattle.ov_history.specs.History.{KeepsNewest}
 use Rattle.ov_core.specs.Stepping.{closing, Closes}
 use Rattle.ov_history.proofs.Histories.{keeps_last}
 use Rattle.ov_streams.specs.Feeding.{fed_piece}
-use Rattle.ov_serve.specs.Serving.{ServerState, ExtendsHanding, Piece, Pieces, most_piece_bytes, bytes_of, piece_events, events_of, TellsMoments, IsCauseIn, ClosesAfter, ClosesFor, EndsSession, Served}
+use Rattle.ov_serve.specs.Serving.{ServerState, ExtendsHanding, Piece, Pieces, most_piece_bytes, bytes_of, piece_events, events_of, TellsMoments, IsCauseIn, ClosesAfter, ClosesFor, EndsServing, Served}
 use Rattle.ov_ends.specs.States.{SourceState, SinkState}
 use Rattle.ov_ends.specs.Writing.{WritesOf}
 use Rattle.ov_serve.specs.Progress.{Sends, stream_cause, IsShut, StandsAfter, ServesPiece, ServedSoFar, ServedAndFed}
@@ -72,7 +72,7 @@ writes_of_all false frames waits all said said' is none (some, told, (others, be
 -- what a history from an opening says, by the frames that were handed out
 ends_as : {K D : Type 0} (n : ℕ) (cause : Cause) (old new : CoreState K D) (schema : Schema) (database : Database) (history entries : List machine.Entry) (given : ℕ → List (List ℕ)) (frames : List (List ℕ)) (said said' : List ℕ) → n ≡ old.state.next
     → Follows (opening schema database) history given old → Follows (opening schema database) (history ++ entries) (and_all_handed given n frames) new → WritesOf (is_written cause) (joined frames) said said' → (is_written cause ≡ true → waiting_for n new.outbox ≡ [])
-    → IsCauseIn cause (closed_by old.state entries n) → EndsSession (opening schema database) (history ++ entries) n cause said said'
+    → IsCauseIn cause (closed_by old.state entries n) → EndsServing (opening schema database) (history ++ entries) n cause said said'
 ends_as n cause old new schema database history entries given frames said said' serial f f' written none_left told =
     let reached : machine.Stepped = record { state = old.state; sent = f.sent } in
     let to_come = next_is_unopened schema database history reached n serial f.legal in

@@ -123,7 +123,7 @@ ClosesFor n Overrun mid last new = ⊥
 -- What a history from a state on says of a session at its end, by the bytes written before it and after it: all that the
 -- history sends the session was written, or a beginning of that if a write failed; and the history closes the session for
 -- the cause that is reported.
-pub record EndsSession (before : State) (history : List machine.Entry) (n : ℕ) (cause : Cause) (said said' : List ℕ) : Type 0 where
+pub record EndsServing (before : State) (history : List machine.Entry) (n : ℕ) (cause : Cause) (said said' : List ℕ) : Type 0 where
   pub reached : machine.Stepped
   pub legal : run before history ≡ Some reached
   pub written : WritesOf (is_written cause) (out n reached.sent) said said'
@@ -155,7 +155,7 @@ pub record Served {K D C : Type 0} (tells : C → ℕ → C → Type 0) (n : ℕ
   pub none_left : is_written cause ≡ true → waiting_for n new.core.outbox ≡ []
   -- whatever history the core has followed from its opening, this is what it says of the session with the entries appended
   pub ends : (schema : Schema) (database : Database) (history : List machine.Entry) (given : ℕ → List (List ℕ)) → Follows (opening schema database) history given old.core
-      → EndsSession (opening schema database) (history ++ entries) n cause old.writer.written new.writer.written
+      → EndsServing (opening schema database) (history ++ entries) n cause old.writer.written new.writer.written
 
 -- What the ends say of a cause: the input ended only if the reader met its end, and a failure is counted if one is reported
 -- and never otherwise.
