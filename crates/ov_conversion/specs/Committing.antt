@@ -6,5 +6,5 @@ use Rattle.ov_specs.specs.operations.Errors.{OpError}
 use Rattle.ov_specs.specs.rows.Database.{Database}
 
 -- if the rows are not convertible, the commit fails
-abbrev pub IsRefused : Result Database OpError → ConversionFault → Type 0
-IsRefused committed fault = fault ≡ NotConvertible → (error : OpError) × (committed ≡ Err error)
+abbrev pub IsConversionRefused : Result Database OpError → ConversionFault → Type 0
+IsConversionRefused committed fault = fault ≡ NotConvertible → (error : OpError) × (committed ≡ Err error)

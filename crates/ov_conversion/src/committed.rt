@@ -1,6 +1,6 @@
 ghost use Rattle.std.specs.Prelude.{◌≡◌, Some, true, Ok, IfOk, IfErr};
 ghost use Rattle.std.specs.FinMap.{get};
-ghost use Rattle.ov_conversion.specs.Committing.{IsRefused};
+ghost use Rattle.ov_conversion.specs.Committing.{IsConversionRefused};
 ghost use Rattle.ov_specs.specs.integrity.Committed as spec;
 ghost use Rattle.ov_specs.specs.rows.Database as database;
 ghost use Rattle.ov_specs.specs.rows.Lines.{LineKey};
@@ -33,7 +33,8 @@ pub(crate) fn committed(
     requires suits { Suits schema.now rows }
     ensures ok { IfOk result (λ left. spec.committed schema.now before.now version rows ≡ Ok left) }
     ensures suits { IfOk result (Suits schema.now) }
-    ensures err { IfErr result (IsRefused (spec.committed schema.now before.now version rows)) }
+    ensures err { IfErr result
+        (IsConversionRefused (spec.committed schema.now before.now version rows)) }
 {
     has_sixteen_bytes(&version);
     if misses(alloc, schema, &rows)? {

@@ -28,7 +28,7 @@ use Rattle.ov_history.specs.Entries.{attempt_view, listed_by, is_closing, is_kep
 use Rattle.ov_core.specs.Handling.{AsksStore, AsksAll, IsCompleted, IsTrial, listed_of, with_db}
 use Rattle.ov_core.specs.Sessions.{ClosesSession}
 use Rattle.ov_core.specs.States.{state_of, sessions_of}
-use Rattle.ov_core.specs.Settling.{SettlingState, IsSettling, Settles, AfterTry, tried_again, to_do}
+use Rattle.ov_core.specs.Settling.{SettlingState, SettlesSoFar, SettlesAll, AfterTry, tried_again, to_do}
 use Rattle.ov_outbox.proofs.Answered.{posts_then}
 use Rattle.ov_core.proofs.Asking.{asks_none, asks_one, asks_then}
 use Rattle.ov_core.proofs.Counting.{few_dropped, few_blocked, few_done, few_again, falls_dropped, falls_again}
@@ -134,10 +134,10 @@ module _ {K : Type 0} (failed : K → ℕ) (m first : ℕ) (from : Live K) (befo
       ≤ first + first + (length from.waiting.outstanding + length from.waiting.outstanding * length from.waiting.outstanding) + many w
 
   -- one attempt more
-  one_more : (x : IsSettling failed m first (settling_at from before) (settling_at now listed) number) (o : Option Outcome) (sent : List Sent) (new : Live K) (more : List Attempt) → more ≡ listed ++ listed_by number o
+  one_more : (x : SettlesSoFar failed m first (settling_at from before) (settling_at now listed) number) (o : Option Outcome) (sent : List Sent) (new : Live K) (more : List Attempt) → more ≡ listed ++ listed_by number o
       → Reaches (state_of from m) first (x.made ++ made_by number (listed_of o)) (at_point (state_of new m) (x.sent ++ sent) (number + 1) new.waiting.untried)
       → PostsSent sent now.outbox.frames new.outbox.frames → AsksStore failed o now.database new.database → failed now.database.keeper ≤ failed new.database.keeper
-      → IsLeft now.sessions.open_sessions new.sessions.open_sessions → new.tries ≡ now.tries + 1 → Few (number + 1) new.waiting → IsSettling failed m first (settling_at from before) (settling_at new more) (number + 1)
+      → IsLeft now.sessions.open_sessions new.sessions.open_sessions → new.tries ≡ now.tries + 1 → Few (number + 1) new.waiting → SettlesSoFar failed m first (settling_at from before) (settling_at new more) (number + 1)
   one_more x o sent new more is reaches posts asks counts left tries few = record {
     made = x.made ++ made_by number (listed_of o);
     lists = ap (map attempt_view) is ∙ (map-append attempt_view listed (listed_by number o) ∙ (ap (λ (list : List machine.Attempt). list ++ map attempt_view (listed_by number o)) x.lists
@@ -151,7 +151,7 @@ module _ {K : Type 0} (failed : K → ℕ) (m first : ℕ) (from : Live K) (befo
     few = few;
   }
 
-  module _ (x : IsSettling failed m first (settling_at from before) (settling_at now listed) number) (w : Outstanding) (rest : List Outstanding) (next : now.waiting.untried ≡ w ∷ rest) where
+  module _ (x : SettlesSoFar failed m first (settling_at from before) (settling_at now listed) number) (w : Outstanding) (rest : List Outstanding) (next : now.waiting.untried ≡ w ∷ rest) where
     here : Reaches (state_of from m) first x.made (at_point (state_of now m) x.sent number (w ∷ rest))
     here = subst (λ (ws : List Outstanding). Reaches (state_of from m) first x.made (at_point (state_of now m) x.sent number ws)) next x.reaches
 
@@ -159,7 +159,7 @@ module _ {K : Type 0} (failed : K → ℕ) (m first : ℕ) (from : Live K) (befo
     one = omega (arith, ap (λ (ws : List Outstanding). length ws) next)
 
     -- one whose session was closed is not tried
-    pub skipped : has_serial w.session now.sessions.open_sessions ≡ false → IsSettling failed m first (settling_at from before) (settling_at (record now { waiting = record now.waiting { untried = rest } }) listed) number
+    pub skipped : has_serial w.session now.sessions.open_sessions ≡ false → SettlesSoFar failed m first (settling_at from before) (settling_at (record now { waiting = record now.waiting { untried = rest } }) listed) number
     skipped away = record {
       made = x.made;
       lists = x.lists;
@@ -184,7 +184,7 @@ module _ {K : Type 0} (failed : K → ℕ) (m first : ℕ) (from : Live K) (befo
       next_one : (o : Option Outcome) → machine.is_kept (listed_of o) ≡ false → (sent : List Sent) (new : Live K) (more : List Attempt) → more ≡ listed ++ listed_by number o
           → tries_again (state_of now m) w (listed_of o) ≡ Some (record { state = state_of new m; sent = sent }) → new.waiting.untried ≡ rest
           → PostsSent sent now.outbox.frames new.outbox.frames → AsksStore failed o now.database new.database → failed now.database.keeper ≤ failed new.database.keeper
-          → IsLeft now.sessions.open_sessions new.sessions.open_sessions → new.tries ≡ now.tries + 1 → Few (number + 1) new.waiting → IsSettling failed m first (settling_at from before) (settling_at new more) (number + 1)
+          → IsLeft now.sessions.open_sessions new.sessions.open_sessions → new.tries ≡ now.tries + 1 → Few (number + 1) new.waiting → SettlesSoFar failed m first (settling_at from before) (settling_at new more) (number + 1)
       next_one o not_kept sent new more is again untried posts asks counts left tries few =
           one_more x o sent new more is
           (subst (λ (ws : List Outstanding). Reaches (state_of from m) first (x.made ++ made_by number (listed_of o)) (at_point (state_of new m) (x.sent ++ sent) (number + 1) ws)) (sym untried)
@@ -193,7 +193,7 @@ module _ {K : Type 0} (failed : K → ℕ) (m first : ℕ) (from : Live K) (befo
 
       -- one that is blocked again, which leaves the waiting frames as they are
       pub blocked : (outbox : Outbox) (timeout : Option ℕ) → outbox.queues ≡ now.outbox.queues → HasSameFrames now.outbox.frames outbox.frames → on ≡ Waits timeout
-          → IsSettling failed m first (settling_at from before) (settling_at (record now { outbox = outbox; tries = now.tries + 1; waiting = record { untried = rest; outstanding = now.waiting.outstanding ++ record w { timeout = timeout } ∷ [] } }) listed) (number + 1)
+          → SettlesSoFar failed m first (settling_at from before) (settling_at (record now { outbox = outbox; tries = now.tries + 1; waiting = record { untried = rest; outstanding = now.waiting.outstanding ++ record w { timeout = timeout } ∷ [] } }) listed) (number + 1)
       blocked outbox timeout queues silent waits =
           next_one None refl [] (record now { outbox = outbox; tries = now.tries + 1; waiting = record { untried = rest; outstanding = now.waiting.outstanding ++ record w { timeout = timeout } ∷ [] } }) listed (sym (append-nil listed))
           (rw (waits, queues) refl) refl (posts_none now.outbox.frames outbox.frames silent) refl (omega arith) (still_all now.sessions.open_sessions) refl
@@ -223,14 +223,14 @@ module _ {K : Type 0} (failed : K → ℕ) (m first : ℕ) (from : Live K) (befo
         unkept : (o : Option Outcome) (new : Live K) (more : List Attempt) → more ≡ listed ++ listed_by number o → machine.is_kept (listed_of o) ≡ false → AfterTry w.session o mid new → new ≡ mid
             → tries_again (state_of now m) w (listed_of o) ≡ machine.attempt (state_of now m) w on (listed_of o)
             → IsCompleted (request (sessions_of now.watchers now.sessions.open_sessions) w.session w.id on) (trial_state now.database now.outbox.frames) o (trial_state db outbox.frames)
-            → AsksStore failed o now.database db → failed now.database.keeper ≤ failed db.keeper → IsSettling failed m first (settling_at from before) (settling_at new more) (number + 1)
+            → AsksStore failed o now.database db → failed now.database.keeper ≤ failed db.keeper → SettlesSoFar failed m first (settling_at from before) (settling_at new more) (number + 1)
         unkept o new more is h after same tries c asks counts =
             let few = few_after o new after h in
             rw same (next_one o h c.sent mid more is (completes_again o c tries ∙ ap (λ (s : State). Some (record { state = s; sent = c.sent })) (sym state_is)) refl c.posts asks counts (still_all now.sessions.open_sessions) refl (rw same at few))
 
         pub done : (o : Option Outcome) (new : Live K) (more : List Attempt) → more ≡ listed ++ listed_by number o → AfterTry w.session o mid new
             → IsTrial (request (sessions_of now.watchers now.sessions.open_sessions) w.session w.id on) (trial_state now.database now.outbox.frames) (Done o) (trial_state db outbox.frames)
-            → AsksStore failed o now.database db → failed now.database.keeper ≤ failed db.keeper → IsSettling failed m first (settling_at from before) (settling_at new more) (number + 1)
+            → AsksStore failed o now.database db → failed now.database.keeper ≤ failed db.keeper → SettlesSoFar failed m first (settling_at from before) (settling_at new more) (number + 1)
         done (Some outcome.NoMemory) new more is c (same, silent) asks counts =
             let sent = (machine.closed (state_of now m) w.session).sent in
             let few = few_after (Some outcome.NoMemory) new c refl in
@@ -263,7 +263,7 @@ module _ {K : Type 0} (failed : K → ℕ) (m first : ℕ) (from : Live K) (befo
 
 -- all waiting transactions are to be tried
 pub begun : {K : Type 0} (failed : K → ℕ) (m first : ℕ) (old : Live K) (listed : List Attempt) → old.waiting.untried ≡ []
-    → IsSettling failed m first (settling_at old listed) (settling_at (record old { waiting = record { untried = old.waiting.outstanding; outstanding = old.waiting.untried } }) listed) first
+    → SettlesSoFar failed m first (settling_at old listed) (settling_at (record old { waiting = record { untried = old.waiting.outstanding; outstanding = old.waiting.untried } }) listed) first
 begun failed m first old listed none = rw none (record {
   made = [];
   lists = sym (append-nil (map attempt_view listed));
@@ -277,8 +277,8 @@ begun failed m first old listed none = rw none (record {
 })
 
 -- none is left to be tried
-pub ended : {K : Type 0} (failed : K → ℕ) (m first : ℕ) (old : Live K) (before : List Attempt) (new : Live K) (listed : List Attempt) (number : ℕ) → IsSettling failed m first (settling_at old before) (settling_at new listed) number → new.waiting.untried ≡ []
-    → Settles failed m first (settling_at old before) (settling_at new listed)
+pub ended : {K : Type 0} (failed : K → ℕ) (m first : ℕ) (old : Live K) (before : List Attempt) (new : Live K) (listed : List Attempt) (number : ℕ) → SettlesSoFar failed m first (settling_at old before) (settling_at new listed) number → new.waiting.untried ≡ []
+    → SettlesAll failed m first (settling_at old before) (settling_at new listed)
 ended failed m first old before new listed number x none = record {
   made = x.made;
   lists = x.lists;

@@ -22,7 +22,7 @@ use Rattle.ov_history.specs.Entries.{attempt_view, listed_by, is_kept, is_closin
 use Rattle.ov_core.specs.Handling.{AsksStore, Stays, WorkIsDone, WorksWith, listed_of, work_at}
 use Rattle.ov_core.specs.Sessions.{ClosesSession}
 use Rattle.ov_core.specs.Counting.{RisesBy, CountsTries}
-use Rattle.ov_core.specs.Settling.{ComesTo, Settles, choice_of}
+use Rattle.ov_core.specs.Settling.{ComesTo, SettlesAll, choice_of}
 use Rattle.ov_core.specs.States.{state_of}
 use Rattle.ov_outbox.proofs.Answered.{posts_then}
 use Rattle.ov_core.proofs.Asking.{asks_one, asks_then}
@@ -143,7 +143,7 @@ module _ {K : Type 0} (failed : K → ℕ) (m n : ℕ) (message : Message) (draw
   -- it was kept, and the waiting transactions were settled
   pub take_settles : (o : Option Outcome) (new : Live K) (before attempts : List Attempt) → is_closing o ≡ false → is_kept o ≡ true → before ≡ listed_by 1 o → WorksWith (work_at m n work draws) old o mid
       → AsksStore failed o old.database mid.database → failed old.database.keeper ≤ failed mid.database.keeper → RisesBy (listed_of o) (own_attempts work) old.tries mid.tries
-      → Settles failed m 2 (settling_at mid before) (settling_at new attempts) → ComesTo failed (choice_of m draws attempts) (machine.Take n message) old new
+      → SettlesAll failed m 2 (settling_at mid before) (settling_at new attempts) → ComesTo failed (choice_of m draws attempts) (machine.Take n message) old new
   take_settles o new before attempts open' kept listed did asks counts tries s =
       let is = kept_is o kept in
       let done = done_where m n work draws old o mid open' did in
@@ -166,7 +166,7 @@ module _ {K : Type 0} (failed : K → ℕ) (m n : ℕ) (message : Message) (draw
       }
 
 -- the waiting transactions were settled as time passed
-pub tick_settles : {K : Type 0} (failed : K → ℕ) (m : ℕ) (old new : Live K) (before attempts : List Attempt) → before ≡ [] → Settles failed m 1 (settling_at old before) (settling_at new attempts) → ComesTo failed (choice_of m [] attempts) machine.Tick old new
+pub tick_settles : {K : Type 0} (failed : K → ℕ) (m : ℕ) (old new : Live K) (before attempts : List Attempt) → before ≡ [] → SettlesAll failed m 1 (settling_at old before) (settling_at new attempts) → ComesTo failed (choice_of m [] attempts) machine.Tick old new
 tick_settles failed m old new before attempts none s =
     let all : map attempt_view attempts ≡ s.made = s.lists ∙ ap (λ (list : List Attempt). map attempt_view list ++ s.made) none in
     record {

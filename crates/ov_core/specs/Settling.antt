@@ -46,7 +46,7 @@ pub record SettlingState (K : Type 0) : Type 0 where
 
 -- Settling has begun with attempt number `first`, and the next attempt has number `number`: whatever follows, the machine's
 -- settling comes to what was sent and the rest of settling from here.
-pub record IsSettling {K : Type 0} (failed : K → ℕ) (moment first : ℕ) (from now : SettlingState K) (number : ℕ) : Type 0 where
+pub record SettlesSoFar {K : Type 0} (failed : K → ℕ) (moment first : ℕ) (from now : SettlingState K) (number : ℕ) : Type 0 where
   pub made : List machine.Attempt
   pub lists : map attempt_view now.listed ≡ map attempt_view from.listed ++ made
   pub sent : List Sent
@@ -60,7 +60,7 @@ pub record IsSettling {K : Type 0} (failed : K → ℕ) (moment first : ℕ) (fr
       ≤ first + first + (length from.live.waiting.outstanding + length from.live.waiting.outstanding * length from.live.waiting.outstanding) + many now.live.waiting
 
 -- The waiting transactions are settled, beginning with attempt number `first`.
-pub record Settles {K : Type 0} (failed : K → ℕ) (moment first : ℕ) (old new : SettlingState K) : Type 0 where
+pub record SettlesAll {K : Type 0} (failed : K → ℕ) (moment first : ℕ) (old new : SettlingState K) : Type 0 where
   pub made : List machine.Attempt
   pub lists : map attempt_view new.listed ≡ map attempt_view old.listed ++ made
   pub sent : List Sent

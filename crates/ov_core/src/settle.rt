@@ -4,7 +4,7 @@ ghost use Rattle.ov_specs.specs.locks.Queues.{owns};
 ghost use Rattle.ov_specs.specs.operations.Transaction.{transaction};
 ghost use Rattle.ov_requests.specs.Waiting.{many};
 ghost use Rattle.ov_core.specs.Handling.{AsksStore, IsTrial, outcome_in};
-ghost use Rattle.ov_core.specs.Settling.{AfterTry, to_do, SettlingState, IsSettling, Settles};
+ghost use Rattle.ov_core.specs.Settling.{AfterTry, to_do, SettlingState, SettlesSoFar, SettlesAll};
 ghost use Rattle.ov_core.specs.States.{sessions_of};
 
 use crate::attempt::{Asked, Trial, try_once};
@@ -28,7 +28,7 @@ impl<K: Keeper + Drop> Live<K> {
         requires room { vec_len attempts.old + length self.old.waiting.outstanding
             ≤ vec_capacity attempts.old }
         requires first { first ≤ 2 }
-        ensures settles { Settles K.failed moment first
+        ensures settles { SettlesAll K.failed moment first
             (record { live = self.old; listed = attempts.old.items })
             (record { live = self.new; listed = attempts.new.items }) }
         ensures honest { K.is_honest self.new.database.keeper
@@ -54,9 +54,9 @@ impl<K: Keeper + Drop> Live<K> {
         requires room { vec_len attempts.old + many self.old.waiting ≤ vec_capacity attempts.old }
         requires number { number < 2 ^ 63 }
         ensures goes_on { (first : ℕ) (from : SettlingState K)
-            → IsSettling K.failed moment first from
+            → SettlesSoFar K.failed moment first from
             (record { live = self.old; listed = attempts.old.items }) number
-            → IsSettling K.failed moment first from
+            → SettlesSoFar K.failed moment first from
             (record { live = self.new; listed = attempts.new.items }) result }
         ensures room { vec_len attempts.new + many self.new.waiting ≤ vec_capacity attempts.new }
         ensures falls { to_do self.new.waiting < to_do self.old.waiting }

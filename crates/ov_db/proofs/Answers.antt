@@ -19,7 +19,7 @@ use Rattle.ov_db.specs.declared.fault.OpenFault.{OpenFault}
 use Rattle.ov_db.specs.declared.fault.OpenFault.TheVariants.{SchemaDiffers, BadBody, Broken, TypeChanged, NotConvertible, Keeping}
 use Rattle.ov_db.specs.declared.resident.Resident.{Resident}
 use Rattle.ov_db.specs.Loading.{IsNotLoaded}
-use Rattle.ov_db.specs.Opening.{IsFaultAs, IsNotWhole, IsReadFault, IsRefused, TellsRefusal, open_of, opens_as}
+use Rattle.ov_db.specs.Opening.{IsFaultAs, IsNotWhole, IsReadFault, IsOpeningRefused, TellsRefusal, open_of, opens_as}
 use Rattle.ov_db.specs.Residing.{IsResident}
 use Rattle.ov_db.proofs.Loads.{cells_held}
 
@@ -80,7 +80,7 @@ pub another_text : (schema : Schema) (stored : Stored) → open_of schema stored
 another_text schema stored h same = not_opened (held schema stored.lines) schema refusal.SchemaDiffers (sym (own_opens schema None stored same) ∙ h) (λ e. cc) (λ e. cc)
 
 -- no rows are held
-pub unloaded : (o : Option Database) (next : Database → Result Database OpenRefusal) (fault : OpenFault) → IsNotLoaded o fault → IsRefused (if_held o next) fault
+pub unloaded : (o : Option Database) (next : Database → Result Database OpenRefusal) (fault : OpenFault) → IsNotLoaded o fault → IsOpeningRefused (if_held o next) fault
 unloaded o next BadBody is = ap (λ (p : Option Database). if_held p next) is
 unloaded o next (Keeping fault) is = is
 unloaded o next SchemaDiffers is = absurd is
@@ -89,7 +89,7 @@ unloaded o next TypeChanged is = absurd is
 unloaded o next NotConvertible is = absurd is
 
 -- those that are held break a rule
-pub not_whole : (schema : Schema) (o : Option Database) (rows : Database) (fault : OpenFault) → o ≡ Some rows → IsNotWhole schema rows fault → IsRefused (if_held o (opened schema)) fault
+pub not_whole : (schema : Schema) (o : Option Database) (rows : Database) (fault : OpenFault) → o ≡ Some rows → IsNotWhole schema rows fault → IsOpeningRefused (if_held o (opened schema)) fault
 not_whole schema o rows Broken held is = ap (λ (p : Option Database). if_held p (opened schema)) held ∙ ap (λ b. cond b (Ok rows) (Err refusal.Broken)) is
 not_whole schema o rows (Keeping fault) held is = is
 not_whole schema o rows SchemaDiffers held is = absurd is
@@ -125,7 +125,7 @@ current_stored schema version stored database same of_format opens =
 -- ---- a conversion
 
 -- the stored text is no schema
-pub no_schema : (o : Option Schema) (schema : Schema) (version : Uuid) (lines : StoredLines) (fault : OpenFault) → IsNotLoaded o fault → IsRefused (converted_from o schema version lines) fault
+pub no_schema : (o : Option Schema) (schema : Schema) (version : Uuid) (lines : StoredLines) (fault : OpenFault) → IsNotLoaded o fault → IsOpeningRefused (converted_from o schema version lines) fault
 no_schema o schema version lines BadBody is = ap (λ (p : Option Schema). converted_from p schema version lines) is
 no_schema o schema version lines (Keeping fault) is = is
 no_schema o schema version lines SchemaDiffers is = absurd is
@@ -134,9 +134,9 @@ no_schema o schema version lines TypeChanged is = absurd is
 no_schema o schema version lines NotConvertible is = absurd is
 
 -- the stored rows are no rows of it
-pub no_rows : (o : Option Schema) (old schema : Schema) (version : Uuid) (lines : StoredLines) (fault : OpenFault) → o ≡ Some old → IsNotLoaded (held old lines) fault → IsRefused (converted_from o schema version lines) fault
+pub no_rows : (o : Option Schema) (old schema : Schema) (version : Uuid) (lines : StoredLines) (fault : OpenFault) → o ≡ Some old → IsNotLoaded (held old lines) fault → IsOpeningRefused (converted_from o schema version lines) fault
 no_rows o old schema version lines fault is none =
-    subst (λ (p : Option Schema). IsRefused (converted_from p schema version lines) fault) (sym is) (unloaded (held old lines) (converted old schema version) fault none)
+    subst (λ (p : Option Schema). IsOpeningRefused (converted_from p schema version lines) fault) (sym is) (unloaded (held old lines) (converted old schema version) fault none)
 
 -- those that are held are converted
 pub converts : (o : Option Schema) (old schema : Schema) (version : Uuid) (lines : StoredLines) (rows : Database) → o ≡ Some old → held old lines ≡ Some rows → converted_from o schema version lines ≡ converted old schema version rows
@@ -146,10 +146,10 @@ converts o old schema version lines rows is held_is =
 -- ---- faults
 
 -- the same answer is refused the same
-pub refused_same : (a b : Result Database OpenRefusal) (fault : OpenFault) → b ≡ a → IsRefused a fault → IsRefused b fault
-refused_same a b fault same is = subst (λ (r : Result Database OpenRefusal). IsRefused r fault) (sym same) is
+pub refused_same : (a b : Result Database OpenRefusal) (fault : OpenFault) → b ≡ a → IsOpeningRefused a fault → IsOpeningRefused b fault
+refused_same a b fault same is = subst (λ (r : Result Database OpenRefusal). IsOpeningRefused r fault) (sym same) is
 
-pub tells : (answer : Result Database OpenRefusal) (fault : OpenFault) → IsRefused answer fault → TellsRefusal answer fault
+pub tells : (answer : Result Database OpenRefusal) (fault : OpenFault) → IsOpeningRefused answer fault → TellsRefusal answer fault
 tells answer SchemaDiffers is = is
 tells answer BadBody is = is
 tells answer Broken is = is
@@ -183,7 +183,7 @@ no_conversion schema stored r h differs bad broken = by (bytes_eq stored.schema 
         let same = (bytes_eq-Decides stored.schema (compact_text schema.tree)).0 is in
         not_opened (held schema stored.lines) schema r (sym (own_opens schema None stored same) ∙ h) bad broken
 
-pub kind_as : (schema : Schema) (version : Option Uuid) (stored : Stored) (fault : OpenFault) → IsRefused (opens_as schema version stored) fault → IsFaultAs version fault
+pub kind_as : (schema : Schema) (version : Option Uuid) (stored : Stored) (fault : OpenFault) → IsOpeningRefused (opens_as schema version stored) fault → IsFaultAs version fault
 kind_as schema None stored SchemaDiffers is = tt
 kind_as schema None stored BadBody is = tt
 kind_as schema None stored Broken is = tt
@@ -197,7 +197,7 @@ kind_as schema (Some version) stored TypeChanged is = tt
 kind_as schema (Some version) stored NotConvertible is = tt
 kind_as schema (Some version) stored (Keeping fault) is = memory_commits fault is
 
-pub reads_only : (answer : Result Database OpenRefusal) (fault : OpenFault) → IsRefused answer fault → IsReadFault fault
+pub reads_only : (answer : Result Database OpenRefusal) (fault : OpenFault) → IsOpeningRefused answer fault → IsReadFault fault
 reads_only answer SchemaDiffers is = tt
 reads_only answer BadBody is = tt
 reads_only answer Broken is = tt
@@ -206,7 +206,7 @@ reads_only answer NotConvertible is = tt
 reads_only answer (Keeping fault) is = memory_loads fault is
 
 -- a refusal is no failure of the device
-pub no_device : (answer : Result Database OpenRefusal) (fault : OpenFault) → IsRefused answer fault → fault ≡ Keeping keeping.Device → ⊥
+pub no_device : (answer : Result Database OpenRefusal) (fault : OpenFault) → IsOpeningRefused answer fault → fault ≡ Keeping keeping.Device → ⊥
 no_device answer SchemaDiffers is e = cc
 no_device answer BadBody is e = cc
 no_device answer Broken is e = cc

@@ -17,7 +17,7 @@ use Rattle.ov_keeper.specs.declared.keeper.Keeper.{Ghosts}
 use Rattle.ov_keeper.specs.Keeping.{HasFailed, IsCommitFault, IsLoadFault, LeavesMade, LeavesNoMore, LeavesRefused}
 use Rattle.ov_db.specs.declared.fault.OpenFault.{OpenFault}
 use Rattle.ov_db.specs.declared.fault.OpenFault.TheVariants.{SchemaDiffers, Keeping}
-use Rattle.ov_db.specs.Opening.{IsOutdated, IsRefused, IsRenewed, opens_as}
+use Rattle.ov_db.specs.Opening.{IsOutdated, IsOpeningRefused, IsRenewed, opens_as}
 use Rattle.ov_db.specs.OpensFrom.{OpensFrom, RefusesFrom}
 use Rattle.ov_db.specs.Stored.{KeepsRows}
 use Rattle.ov_db.proofs.Answers.{current_stored, keeps_as, kind_as, load_commits, no_device, own_text, reads_only, tells}
@@ -72,12 +72,12 @@ module _ {K : Type 0} (k : Ghosts K) (schema : Schema) (version : Option Uuid) (
 
 module _ {K : Type 0} (k : Ghosts K) (schema : Schema) (version : Option Uuid) (old mid : K) (loaded : Stored) (loads : Loads k old mid loaded) where
   -- what was loaded is refused
-  pub refused : (fault : OpenFault) → IsRefused (opens_as schema version loaded) fault → RefusesFrom k schema version old mid fault
+  pub refused : (fault : OpenFault) → IsOpeningRefused (opens_as schema version loaded) fault → RefusesFrom k schema version old mid fault
   refused fault is = record {
     format = loads.same_format;
     kinds = kind_as schema version loaded fault is;
     read_kinds = λ none now two. reads_only (opens_as schema version loaded) fault is;
-    tells = λ now held here. tells (opens_as schema version held) fault (subst (λ (s : Stored). IsRefused (opens_as schema version s) fault) (sym (loads.ok now held here)) is);
+    tells = λ now held here. tells (opens_as schema version held) fault (subst (λ (s : Stored). IsOpeningRefused (opens_as schema version s) fault) (sym (loads.ok now held here)) is);
     left = λ now found here. inl (loads.same now found here);
     one = λ now e a b is_a is_b. loads.ok now a is_a ∙ sym (loads.ok now b is_b);
     cause = λ e. absurd (no_device (opens_as schema version loaded) fault is e);

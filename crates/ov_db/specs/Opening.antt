@@ -92,13 +92,13 @@ LeavesUnopened old new opens schema fault =
 -- ---- for private clauses
 
 -- the answer is this refusal, or an allocation failed before it was known
-abbrev pub IsRefused : Result Database OpenRefusal → OpenFault → Type 0
-IsRefused answer SchemaDiffers = answer ≡ Err refusal.SchemaDiffers
-IsRefused answer BadBody = answer ≡ Err refusal.BadBody
-IsRefused answer Broken = answer ≡ Err refusal.Broken
-IsRefused answer TypeChanged = answer ≡ Err refusal.TypeChanged
-IsRefused answer NotConvertible = answer ≡ Err refusal.NotConvertible
-IsRefused answer (Keeping fault) = fault ≡ Memory
+abbrev pub IsOpeningRefused : Result Database OpenRefusal → OpenFault → Type 0
+IsOpeningRefused answer SchemaDiffers = answer ≡ Err refusal.SchemaDiffers
+IsOpeningRefused answer BadBody = answer ≡ Err refusal.BadBody
+IsOpeningRefused answer Broken = answer ≡ Err refusal.Broken
+IsOpeningRefused answer TypeChanged = answer ≡ Err refusal.TypeChanged
+IsOpeningRefused answer NotConvertible = answer ≡ Err refusal.NotConvertible
+IsOpeningRefused answer (Keeping fault) = fault ≡ Memory
 
 -- the rows break a rule of commits, or an allocation failed before that was known
 abbrev pub IsNotWhole : Schema → Database → OpenFault → Type 0

@@ -6,7 +6,7 @@ ghost use Rattle.ov_specs.specs.rows.Cells.{RemoveCells, cell_line_of};
 ghost use Rattle.ov_specs.specs.rows.Lines.{LineKey, line_cmp};
 ghost use Rattle.ov_keeper.specs.Views.{changes_view, change_view, cell_line_entry};
 ghost use Rattle.ov_db.specs.Adding.{lent_keys};
-ghost use Rattle.ov_db.specs.Changing.{applied, as_puts, change_of, with_row};
+ghost use Rattle.ov_db.specs.Changing.{applied, as_puts, change_of, with_change};
 ghost use Rattle.ov_rows.specs.Nested.{in_table};
 ghost use Rattle.ov_db.specs.Placing.{IsPlaced, IsSameBeside};
 ghost use Rattle.ov_db.specs.Stored.{AreCellsRead, IsPutRead, ArePutRead};
@@ -191,7 +191,7 @@ pub(crate) fn make(alloc: Global, rows: &mut Rows, delta: Delta)
 /// Makes one change. If it puts a row, there is a place for it.
 fn make_one(alloc: Global, rows: &mut Rows, key: &RowKey, row: Option<Row>)
     requires { contains_key rows.old key.now ≡ false → row ≡ None }
-    ensures { rows.new ≡ with_row key.now row rows.old }
+    ensures { rows.new ≡ with_change key.now row rows.old }
 {
     match row {
         Some(row) => {

@@ -4,7 +4,7 @@ ghost use Rattle.ov_specs.specs.integrity.Committed.{is_whole};
 ghost use Rattle.ov_specs.specs.rows.Suits.{Suits};
 ghost use Rattle.ov_keeper.specs.Views.{lines_view};
 ghost use Rattle.ov_db.specs.Loading.{IsLoaded};
-ghost use Rattle.ov_db.specs.Opening.{IsNotWhole, IsRefused};
+ghost use Rattle.ov_db.specs.Opening.{IsNotWhole, IsOpeningRefused};
 ghost use Rattle.ov_db.specs.Residing.{IsBeside};
 
 use crate::fault::OpenFault;
@@ -47,7 +47,7 @@ fn converted(
     requires { Suits old.now rows }
     ensures ok { IfOk result (λ resident. converted old.now new.now version rows
         ≡ Ok resident.rows) }
-    ensures err { IfErr result (IsRefused (converted old.now new.now version rows)) }
+    ensures err { IfErr result (IsOpeningRefused (converted old.now new.now version rows)) }
     ensures suits { IfOk result (λ resident. Suits new.now resident.rows) }
     ensures whole { IfOk result (λ resident. is_whole new.now resident.rows ≡ true) }
     ensures beside { IfOk result (λ resident. IsBeside new.now resident.rows resident) }
@@ -73,7 +73,7 @@ pub(crate) fn loaded_converted(
     ensures ok { IfOk result (λ resident. converted_from
         (schema_stored loaded.schema) schema.now version (lines_view loaded.lines)
         ≡ Ok resident.rows) }
-    ensures err { IfErr result (IsRefused (converted_from
+    ensures err { IfErr result (IsOpeningRefused (converted_from
         (schema_stored loaded.schema) schema.now version (lines_view loaded.lines))) }
     ensures suits { IfOk result (λ resident. Suits schema.now resident.rows) }
     ensures whole { IfOk result (λ resident. is_whole schema.now resident.rows ≡ true) }

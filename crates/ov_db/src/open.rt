@@ -10,7 +10,7 @@ ghost use Rattle.ov_keeper.specs.Keeping.{HasFailed, IsCommitFault, LeavesMade, 
 ghost use Rattle.ov_keeper.specs.Keeping.{loaded_contents};
 ghost use Rattle.ov_keeper.specs.Views.{lines_view};
 ghost use Rattle.ov_keeper.specs.declared.fault.KeepFault.TheVariants.{Device};
-ghost use Rattle.ov_db.specs.Opening.{IsRefused, opens_as};
+ghost use Rattle.ov_db.specs.Opening.{IsOpeningRefused, opens_as};
 ghost use Rattle.ov_db.specs.OpensFrom.{OpensFrom, RefusesFrom};
 ghost use Rattle.ov_db.specs.Residing.{IsBeside};
 ghost use Rattle.ov_db.specs.Stored.{KeepsRows};
@@ -80,7 +80,7 @@ fn resident_of(
     requires { IsTrue has_text ↔ (loaded.schema ≡ compact_text schema.now.tree) }
     ensures ok { IfOk result (λ resident. opens_as schema.now version (loaded_contents loaded)
         ≡ Ok resident.rows) }
-    ensures err { IfErr result (IsRefused (opens_as schema.now version
+    ensures err { IfErr result (IsOpeningRefused (opens_as schema.now version
         (loaded_contents loaded))) }
     ensures kept { has_text ≡ true → format_of (lines_view loaded.lines) ≡ 2
         → IfOk result (λ resident. KeepsRows schema.now resident.rows) }
@@ -103,7 +103,7 @@ fn resident_of(
 fn own_resident(alloc: Global, schema: &Schema, lines: Lines) -> Result<Resident, OpenFault>
     ensures ok { IfOk result (λ resident. if_held (held schema.now (lines_view lines))
         (opened schema.now) ≡ Ok resident.rows) }
-    ensures err { IfErr result (IsRefused (if_held (held schema.now (lines_view lines))
+    ensures err { IfErr result (IsOpeningRefused (if_held (held schema.now (lines_view lines))
         (opened schema.now))) }
     ensures kept { format_of (lines_view lines) ≡ 2 → IfOk result
         (λ resident. KeepsRows schema.now resident.rows) }

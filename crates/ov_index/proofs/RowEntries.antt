@@ -15,7 +15,7 @@ use Rattle.ov_specs.specs.schema.SchemaTypes.{Table, Schema}
 use Rattle.ov_specs.specs.values.Uuid.{Uuid}
 use Rattle.ov_specs.proofs.laws.LineKeys.{tied_same, same_tied}
 use Rattle.ov_specs.proofs.laws.Truths.{left_holds, right_holds, not_tied}
-use Rattle.ov_index.specs.Collecting.{is_entry, has_entry, entries_from, entries_in, entries_of_row, with_entries, with_rows, has_indexes}
+use Rattle.ov_index.specs.Collecting.{is_entry, has_entry, entries_from, entries_in, entries_of_row, with_entries, with_entries_of_rows, has_indexes}
 use Rattle.ov_index.specs.IndexKeys.{IndexKey, same_index_key, key_at}
 use Rattle.ov_index.specs.Indexing.{Indexes, is_indexed, stands_at, is_at, AreIndexesOf}
 use Rattle.ov_index.proofs.Kept.{same_key-is, or_false, or_three, indexed-with_entries, none_indexed}
@@ -136,27 +136,27 @@ module _ {X : Type 0} (test : X → Bool) (q : LineKey) where
 
 -- ---- rows that are collected
 
-pub indexed-with_rows : (schema : Schema) (rs : List (LineKey × Row)) (indexes : Indexes) (key : IndexKey) (id : Uuid)
-    → is_indexed (with_rows schema rs indexes) key id ≡ (is_indexed indexes key id || list_any (λ r. eq_by_cmp line_cmp (key.table, id) r.0 && is_at schema ((key.table, id), r.1) key) rs)
-indexed-with_rows schema [] indexes key id = or_false (is_indexed indexes key id)
-indexed-with_rows schema (r ∷ rs) indexes key id =
+pub indexed-with_entries_of_rows : (schema : Schema) (rs : List (LineKey × Row)) (indexes : Indexes) (key : IndexKey) (id : Uuid)
+    → is_indexed (with_entries_of_rows schema rs indexes) key id ≡ (is_indexed indexes key id || list_any (λ r. eq_by_cmp line_cmp (key.table, id) r.0 && is_at schema ((key.table, id), r.1) key) rs)
+indexed-with_entries_of_rows schema [] indexes key id = or_false (is_indexed indexes key id)
+indexed-with_entries_of_rows schema (r ∷ rs) indexes key id =
     let later = list_any (λ (x : LineKey × Row). eq_by_cmp line_cmp (key.table, id) x.0 && is_at schema ((key.table, id), x.1) key) rs in
     let es = entries_in (get schema.tables r.0.0) r.0 r.1.columns in
-    indexed-with_rows schema rs (with_entries es indexes) key id
+    indexed-with_entries_of_rows schema rs (with_entries es indexes) key id
     ∙ ap (λ b. b || later) (indexed-with_entries es indexes key id ∙ ap (λ b. is_indexed indexes key id || b) (row_entry schema key id r.0 (Some r.1)))
     ∙ or_three (is_indexed indexes key id) (eq_by_cmp line_cmp (key.table, id) r.0 && is_at schema ((key.table, id), r.1) key) later
 
 -- indexes that were collected from all rows are those of the rows
-pub indexes_are : (schema : Schema) (rows : Database) (none indexes : Indexes) → none ≡ empty → indexes ≡ with_rows schema (entries rows) none → AreIndexesOf schema rows indexes
+pub indexes_are : (schema : Schema) (rows : Database) (none indexes : Indexes) → none ≡ empty → indexes ≡ with_entries_of_rows schema (entries rows) none → AreIndexesOf schema rows indexes
 indexes_are schema rows none indexes nobody are key id =
-    ap (λ (i : Indexes). is_indexed i key id) are ∙ indexed-with_rows schema (entries rows) none key id
+    ap (λ (i : Indexes). is_indexed i key id) are ∙ indexed-with_entries_of_rows schema (entries rows) none key id
     ∙ (λ i. (ap (λ (n : Indexes). is_indexed n key id) nobody ∙ none_indexed key id) i
     || (any_at (λ row. is_at schema ((key.table, id), row) key) (key.table, id) (entries rows) (entries_sorted rows) ∙ ap (is_some_and (λ (row : Row). is_at schema ((key.table, id), row) key)) (sym (get-entries rows (key.table, id)))) i)
 
 -- rows of one list and then of another
-pub with_rows-append : (schema : Schema) (xs ys : List (LineKey × Row)) (indexes : Indexes) → with_rows schema (xs ++ ys) indexes ≡ with_rows schema ys (with_rows schema xs indexes)
-with_rows-append schema [] ys indexes = refl
-with_rows-append schema (x ∷ xs) ys indexes = with_rows-append schema xs ys (with_entries (entries_in (get schema.tables x.0.0) x.0 x.1.columns) indexes)
+pub with_entries_of_rows-append : (schema : Schema) (xs ys : List (LineKey × Row)) (indexes : Indexes) → with_entries_of_rows schema (xs ++ ys) indexes ≡ with_entries_of_rows schema ys (with_entries_of_rows schema xs indexes)
+with_entries_of_rows-append schema [] ys indexes = refl
+with_entries_of_rows-append schema (x ∷ xs) ys indexes = with_entries_of_rows-append schema xs ys (with_entries (entries_in (get schema.tables x.0.0) x.0 x.1.columns) indexes)
 
 -- rows of a table without indexes make nothing
 no_entries : (o : Option Table) (at : LineKey) (columns : Columns) → has_indexes o ≡ false → entries_in o at columns ≡ []
@@ -167,7 +167,7 @@ no_entries (Some table) at columns h = by table.indexes h
     by [] h = refl
     by (index ∷ indexes) h = cc
 
-pub no_rows : (schema : Schema) (name : List ℕ) (rows : List (Uuid × Row)) (indexes : Indexes) → has_indexes (get schema.tables name) ≡ false → with_rows schema (in_table name rows) indexes ≡ indexes
+pub no_rows : (schema : Schema) (name : List ℕ) (rows : List (Uuid × Row)) (indexes : Indexes) → has_indexes (get schema.tables name) ≡ false → with_entries_of_rows schema (in_table name rows) indexes ≡ indexes
 no_rows schema name [] indexes h = refl
 no_rows schema name (r ∷ rs) indexes h =
-    ap (λ es. with_rows schema (in_table name rs) (with_entries es indexes)) (no_entries (get schema.tables name) (name, r.0) r.1.columns h) ∙ no_rows schema name rs indexes h
+    ap (λ es. with_entries_of_rows schema (in_table name rs) (with_entries es indexes)) (no_entries (get schema.tables name) (name, r.0) r.1.columns h) ∙ no_rows schema name rs indexes h

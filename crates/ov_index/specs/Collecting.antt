@@ -39,9 +39,9 @@ with_entries [] indexes = indexes
 with_entries (entry ∷ entries) indexes = with_entries entries (with_entry entry indexes)
 
 -- with the rows of this list at their keys
-abbrev pub with_rows : Schema → List (LineKey × Row) → Indexes → Indexes
-with_rows schema [] indexes = indexes
-with_rows schema (r ∷ rs) indexes = with_rows schema rs (with_entries (entries_in (get schema.tables r.0.0) r.0 r.1.columns) indexes)
+abbrev pub with_entries_of_rows : Schema → List (LineKey × Row) → Indexes → Indexes
+with_entries_of_rows schema [] indexes = indexes
+with_entries_of_rows schema (r ∷ rs) indexes = with_entries_of_rows schema rs (with_entries (entries_in (get schema.tables r.0.0) r.0 r.1.columns) indexes)
 
 -- the entries of the row of this key, if there is one
 abbrev pub entries_of_row : Schema → LineKey → Option Row → List IndexEntry

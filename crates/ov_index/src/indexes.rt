@@ -1,6 +1,6 @@
 ghost use Rattle.std.specs.Prelude.{◌≡◌, not, option_copied, IfOk, OnOk, OnErr};
 ghost use Rattle.std.specs.FinMap.{empty, get, remove, entries};
-ghost use Rattle.ov_index.specs.Collecting.{entries_in, with_entry, with_entries, with_rows};
+ghost use Rattle.ov_index.specs.Collecting.{entries_in, with_entry, with_entries, with_entries_of_rows};
 ghost use Rattle.ov_index.specs.Collecting.{has_indexes};
 ghost use Rattle.ov_index.specs.Indexing.{AreIndexesOf, is_indexed, lacking, has_none};
 ghost use Rattle.ov_index.specs.Indexing.{without_entry, without_entries};
@@ -114,7 +114,7 @@ impl Indexes {
         rows: &TableRows,
     ) -> Result<(), AllocError>
         ensures { OnOk result (self.new
-            ≡ with_rows schema.now (in_table name.now (entries rows.now)) self.old) }
+            ≡ with_entries_of_rows schema.now (in_table name.now (entries rows.now)) self.old) }
     {
         for (id, row) in rows.map() {
             let key = RowKey::new(alloc, name, *id.as_uuid())?;
@@ -132,7 +132,7 @@ impl Indexes {
         rows: &TableRows,
     ) -> Result<(), AllocError>
         ensures { OnOk result (self.new
-            ≡ with_rows schema.now (in_table name.now (entries rows.now)) self.old) }
+            ≡ with_entries_of_rows schema.now (in_table name.now (entries rows.now)) self.old) }
     {
         if has_indexes(schema, name) {
             self.add_rows(alloc, schema, name, rows)

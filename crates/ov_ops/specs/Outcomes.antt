@@ -37,14 +37,14 @@ IsOutcome outcome (Blocked timeout) rows = outcome ≡ spec.Blocked timeout
 IsOutcome outcome NoMemory rows = Unit {0}
 
 -- an operation has the error of a fault; "out of memory" may answer anything
-abbrev pub IsRefused : spec.OpOutcome → OpFault → Type 0
-IsRefused outcome (Refused error) = outcome ≡ spec.Fault (error_view error)
-IsRefused outcome Memory = Unit {0}
+abbrev pub IsOperationRefused : spec.OpOutcome → OpFault → Type 0
+IsOperationRefused outcome (Refused error) = outcome ≡ spec.Fault (error_view error)
+IsOperationRefused outcome Memory = Unit {0}
 
 -- an operation goes on with what was read of its members, or has the error of reading them
 abbrev pub GoesOn : {A : Type 0} → spec.OpOutcome → (A → spec.OpOutcome) → Result A OpFault → Type 0
 GoesOn outcome next (Ok a) = outcome ≡ next a
-GoesOn outcome next (Err fault) = IsRefused outcome fault
+GoesOn outcome next (Err fault) = IsOperationRefused outcome fault
 
 -- the result of an operation, as its outcome
 abbrev pub outcome_of_result : Result Data OpFault → OpOutcome

@@ -30,7 +30,7 @@ pub record IsAnswered (request : LockRequest) (old new : Outbox) : Type 0 where
   pub sends : PostsSent (sent_of_call request old.queues) old.frames new.frames
 
 -- the request is refused with the text of the fault, if it is reported, and nothing is changed
-pub record IsRefused
+pub record IsRequestRefused
     (request : LockRequest) (old : Outbox) (fault : LockFault) (new : Outbox) : Type 0 where
   pub text : IfSome (fault_text fault)
       (λ text. call_refusal request.call request.name request.session old.queues ≡ Some text)
@@ -41,7 +41,7 @@ pub record IsRefused
 -- one or the other
 abbrev pub IsAsked : LockRequest → Outbox → Result (Unit {0}) LockFault → Outbox → Type 0
 IsAsked request old (Ok done) new = IsAnswered request old new
-IsAsked request old (Err fault) new = IsRefused request old fault new
+IsAsked request old (Err fault) new = IsRequestRefused request old fault new
 
 -- an outbox of these frames and these queues
 abbrev pub parts : WaitingFrames → Queues → Outbox

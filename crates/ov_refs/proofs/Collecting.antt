@@ -15,7 +15,7 @@ use Rattle.ov_specs.specs.schema.SchemaTypes.{Schema}
 use Rattle.ov_specs.proofs.laws.LineKeys.{key_total, tied_same}
 use Rattle.ov_specs.proofs.laws.Truths.{left_holds, right_holds, zero_is, not_tied}
 use Rattle.ov_refs.specs.Holding.{KeySet, Holders, is_holder, with_holder, without, without_holder}
-use Rattle.ov_refs.specs.Linking.{Links, AreNone, AreLinksOf, with_target, with_targets, with_rows}
+use Rattle.ov_refs.specs.Linking.{Links, AreNone, AreLinksOf, with_target, with_targets, with_targets_of_rows}
 
 -- ---- keys
 
@@ -190,7 +190,7 @@ module _ (to from : LineKey) where
 
   -- those of rows
   strong-rows : (schema : Schema) (rs : List (LineKey × Row)) (links : Links)
-      → is_holder (with_rows schema rs links).strong to from ≡ (is_holder links.strong to from || list_any (λ r. same_key from r.0 && refers_strongly schema r to) rs)
+      → is_holder (with_targets_of_rows schema rs links).strong to from ≡ (is_holder links.strong to from || list_any (λ r. same_key from r.0 && refers_strongly schema r to) rs)
   strong-rows schema [] links = or_false (is_holder links.strong to from)
   strong-rows schema (r ∷ rs) links =
       let later = list_any (λ (x : LineKey × Row). same_key from x.0 && refers_strongly schema x to) rs in
@@ -198,7 +198,7 @@ module _ (to from : LineKey) where
       ∙ or_three (is_holder links.strong to from) (same_key from r.0 && refers_strongly schema r to) later
 
   weak-rows : (schema : Schema) (rs : List (LineKey × Row)) (links : Links)
-      → is_holder (with_rows schema rs links).weak to from ≡ (is_holder links.weak to from || list_any (λ r. same_key from r.0 && refers_weakly schema r to) rs)
+      → is_holder (with_targets_of_rows schema rs links).weak to from ≡ (is_holder links.weak to from || list_any (λ r. same_key from r.0 && refers_weakly schema r to) rs)
   weak-rows schema [] links = or_false (is_holder links.weak to from)
   weak-rows schema (r ∷ rs) links =
       let later = list_any (λ (x : LineKey × Row). same_key from x.0 && refers_weakly schema x to) rs in
@@ -229,7 +229,7 @@ module _ (to from : LineKey) where
   nobody_in holders none = ap (λ h. is_holder h to from) none ∙ ap (is_some_and (λ (set : KeySet). contains_key set from)) (get-empty line_cmp to)
 
 -- links that were collected from all rows are those of the rows
-pub links_are : (schema : Schema) (rows : Database) (none links : Links) → AreNone none → links ≡ with_rows schema (entries rows) none → AreLinksOf schema rows links
+pub links_are : (schema : Schema) (rows : Database) (none links : Links) → AreNone none → links ≡ with_targets_of_rows schema (entries rows) none → AreLinksOf schema rows links
 links_are schema rows none links nobody are = record {
   strong = λ to from.
       ap (λ (l : Links). is_holder l.strong to from) are ∙ strong-rows to from schema (entries rows) none
@@ -240,6 +240,6 @@ links_are schema rows none links nobody are = record {
 }
 
 -- rows of one list and then of another
-pub with_rows-append : (schema : Schema) (xs ys : List (LineKey × Row)) (links : Links) → with_rows schema (xs ++ ys) links ≡ with_rows schema ys (with_rows schema xs links)
-with_rows-append schema [] ys links = refl
-with_rows-append schema (x ∷ xs) ys links = with_rows-append schema xs ys (with_targets x.0 (row_targets schema x) links)
+pub with_targets_of_rows-append : (schema : Schema) (xs ys : List (LineKey × Row)) (links : Links) → with_targets_of_rows schema (xs ++ ys) links ≡ with_targets_of_rows schema ys (with_targets_of_rows schema xs links)
+with_targets_of_rows-append schema [] ys links = refl
+with_targets_of_rows-append schema (x ∷ xs) ys links = with_targets_of_rows-append schema xs ys (with_targets x.0 (row_targets schema x) links)

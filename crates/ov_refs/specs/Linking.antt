@@ -62,6 +62,6 @@ with_targets from [] links = links
 with_targets from (target ∷ targets) links = with_targets from targets (with_target from target links)
 
 -- with the references of these rows
-abbrev pub with_rows : Schema → List (LineKey × Row) → Links → Links
-with_rows schema [] links = links
-with_rows schema (r ∷ rs) links = with_rows schema rs (with_targets r.0 (row_targets schema r) links)
+abbrev pub with_targets_of_rows : Schema → List (LineKey × Row) → Links → Links
+with_targets_of_rows schema [] links = links
+with_targets_of_rows schema (r ∷ rs) links = with_targets_of_rows schema rs (with_targets r.0 (row_targets schema r) links)

@@ -3,7 +3,7 @@ ghost use Rattle.std.specs.FinMap.{get, entries};
 ghost use Rattle.ov_specs.specs.integrity.References.{targets_in};
 ghost use Rattle.ov_specs.specs.rows.Database.{Database};
 ghost use Rattle.ov_specs.specs.rows.Changed.{IsAfter};
-ghost use Rattle.ov_refs.specs.Linking.{AreLinksOf, AreNone, with_rows, with_target, with_targets};
+ghost use Rattle.ov_refs.specs.Linking.{AreLinksOf, AreNone, with_targets_of_rows, with_target, with_targets};
 ghost use Rattle.ov_refs.specs.Linking.{without_reference, without_references};
 ghost use Rattle.ov_refs.specs.Counting.{in_64_bits, strong_count};
 ghost use Rattle.ov_refs.specs.Placed.{Adds, AreAlike, lost, refers, targets_at};
@@ -128,7 +128,7 @@ impl Links {
         rows: &TableRows,
     ) -> Result<(), AllocError>
         ensures { OnOk result (self.new
-            ≡ with_rows schema.now (in_table name.now (entries rows.now)) self.old) }
+            ≡ with_targets_of_rows schema.now (in_table name.now (entries rows.now)) self.old) }
     {
         for (id, row) in rows.map() {
             let key = RowKey::new(alloc, name, *id.as_uuid())?;

@@ -14,7 +14,7 @@ use Rattle.sqlite.specs.State.{State, Writes, Executes}
 use Rattle.sqlite.proofs.Callers.{IsPlain, command_of, statement_of, runs_as}
 use Rattle.sqlite_rules.specs.Lists.{Has}
 use Rattle.sqlite_rules.proofs.ListLemmas.{all_has, all_from, has_right}
-use Rattle.ov_tables.specs.Tables.{meta_table, head_table, cell_table, tree_of, with_rows, HasRoomFor, HasRoom, HasTable, create_meta, create_head, create_cell}
+use Rattle.ov_tables.specs.Tables.{meta_table, head_table, cell_table, tree_of, with_row_tables, HasRoomFor, HasRoom, HasTable, create_meta, create_head, create_cell}
 use Rattle.ov_tables.specs.Format.{rows_of}
 use Rattle.ov_tables.specs.Making.{Creates, CreatesRows, IsBare, MakesOurs, Fills, MakesFilled}
 use Rattle.ov_tables.proofs.TableLemmas.{found_has, tree_is}
@@ -160,7 +160,7 @@ ours_made old mid new room was meta rows =
       is_open = rows.is_open;
       bare = bare_rows mid new n has free.0 free.1 meta.sound rows (here ∙ meta.empty);
       meta_tree = tree_is new.now.schema (meta_table n) (meta_last mid new n has free.0 free.1 meta.sound rows);
-      schema = rows.schema ∙ ap with_rows meta.schema;
+      schema = rows.schema ∙ ap with_row_tables meta.schema;
       others = kept_then schema.tables _ old.now.trees mid.now.trees new.now.trees meta.others (subst (λ (s : Schema). KeepsRows s.tables mid.now.trees new.now.trees) meta.schema rows.others);
     }
 

@@ -10,7 +10,7 @@ use Rattle.sqlite.specs.Does.{lacks_sequence}
 use Rattle.sqlite.specs.Effect.{Database, IsDatabase}
 use Rattle.sqlite.specs.State.{State}
 use Rattle.sqlite.specs.Tree.{Trees}
-use Rattle.ov_tables.specs.Tables.{tree_of, with_rows, with_ours, head_table, HasRoom, HasRoomFor, HasCellTables}
+use Rattle.ov_tables.specs.Tables.{tree_of, with_row_tables, with_ours, head_table, HasRoom, HasRoomFor, HasCellTables}
 use Rattle.ov_tables.specs.Format.{rows_of_meta, rows_of_head, rows_of_cell}
 use Rattle.ov_tables.specs.Holding.{HoldsCells, KeepsOthers}
 
@@ -46,7 +46,7 @@ pub record CreatesRows (old new : State) : Type 0 where
   pub mode : IsTrue new.in_transaction
   pub was_open : IsTrue old.is_open
   pub is_open : IsTrue new.is_open
-  pub schema : new.now.schema ≡ with_rows old.now.schema
+  pub schema : new.now.schema ≡ with_row_tables old.now.schema
   pub head : new.now.trees (next_tree old.now.schema) ≡ []
   pub cell : new.now.trees (next_tree (created old.now.schema (head_table 0))) ≡ []
   pub others : KeepsRows old.now.schema.tables old.now.trees new.now.trees

@@ -79,12 +79,12 @@ abbrev pub with_meta : Schema → Schema
 with_meta schema = created schema (meta_table 0)
 
 -- the schema with the tables of the rows after everything that is there
-abbrev pub with_rows : Schema → Schema
-with_rows schema = created (created schema (head_table 0)) (cell_table 0)
+abbrev pub with_row_tables : Schema → Schema
+with_row_tables schema = created (created schema (head_table 0)) (cell_table 0)
 
 -- the schema with the three tables of stored format 2 after everything that is there
 abbrev pub with_ours : Schema → Schema
-with_ours schema = with_rows (with_meta schema)
+with_ours schema = with_row_tables (with_meta schema)
 
 -- a foreign key that names the table of this name, which need not exist
 abbrev pub is_key_to : List ℕ → Reference → Bool

@@ -1,8 +1,8 @@
 use Rattle.std.proofs.Common.{◌≡◌}
 use Rattle.ov_rows.specs.Named.{named}
 use Rattle.ov_rows.specs.Nested.{all_rows}
-use Rattle.ov_index.specs.Collecting.{with_rows}
+use Rattle.ov_index.specs.Collecting.{with_entries_of_rows}
 use Rattle.ov_index.proofs.indexes.Indexes.of.Given as goal
 
 abbrev pub invariant-loop-name : goal.invariant-loop-name
-invariant-loop-name l = with_rows l.schema (all_rows (named l.name-iterator)) l.indexes ≡ with_rows l.schema (all_rows (named l.initial.name-iterator)) l.initial.indexes
+invariant-loop-name l = with_entries_of_rows l.schema (all_rows (named l.name-iterator)) l.indexes ≡ with_entries_of_rows l.schema (all_rows (named l.initial.name-iterator)) l.initial.indexes
