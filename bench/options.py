@@ -26,16 +26,16 @@ FRAMES = (1_000, 4_096, 16_384)
 WIDE = (65_536, 65_536)
 OURS = (4_096, 1_000)
 
-# A start is repeated so often, but not after so many seconds of it.
+# How often a start is repeated, and after how many seconds no more.
 STARTS = 3
 SECONDS = 8
 
-# At least so many commits of one row. With a long log there are more, for it is to be copied into the file once: so many
-# commits as it has frames, over so many.
+# The least number of commits of one row. A long log takes more, so that it is copied into the file once: its frames over
+# those of a commit.
 COMMITS = 500
 FRAMES_OF_A_COMMIT = 5
 
-# The log is filled up to so many frames before its end. A row has no more of them, unless several pages are split.
+# The log is filled up to this number of frames before its end. A row has no more of them, unless several pages are split.
 ROOM = 8
 
 # The bytes of a log's header, of a frame's, and of a page.
@@ -50,7 +50,7 @@ def say(text):
 
 
 class Store:
-    """The program over a file with so many rows, and what it told of its start."""
+    """The program over a file with this number of rows, and what it told of its start."""
 
     def __init__(self, program, path, rows, *options):
         environment = {"GLIBC_TUNABLES": MEMORY, **os.environ}

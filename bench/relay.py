@@ -20,7 +20,7 @@ def pass_on(source, target):
 
 
 def rounds(threads):
-    """The seconds of each round through so many threads, the least first."""
+    """The seconds of each round through this number of threads, the least first."""
     pairs = [socket.socketpair() for _ in range(threads + 1)]
     for before, after in zip(pairs, pairs[1:]):
         threading.Thread(target=pass_on, args=(before[1], after[0]), daemon=True).start()

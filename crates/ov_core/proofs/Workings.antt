@@ -24,7 +24,7 @@ use Rattle.ov_db.specs.declared.answer.StoreAnswer.TheVariants as store
 use Rattle.ov_outbox.specs.Frames.{WaitingFrames, waiting_for, PostsSent, HasSameFrames}
 use Rattle.ov_outbox.specs.Outbox.{Outbox}
 use Rattle.ov_watch.specs.Watching.{Watching, monitors_at, WatchesWith, SameWatching}
-use Rattle.ov_txn.specs.Attempting.{IsAnswer, HasCause}
+use Rattle.ov_txn.specs.Attempting.{IsUnstoredAnswer, HasCause}
 use Rattle.ov_txn.specs.declared.tried.Tried.TheVariants.{Stored}
 use Rattle.ov_requests.specs.Asked.{IsWork, IsWithoutDraws}
 use Rattle.ov_requests.specs.declared.answer.Work as code
@@ -64,7 +64,7 @@ module _ {K : Type 0} (ms : List machine.Session) (n : ℕ) (id : Data) (made : 
   at_once (Some outcome.Failed) h never = absurd never
 
 pub answers : {K : Type 0} (ms : List machine.Session) (n : ℕ) (id : Data) (on : TransactionOutcome) (results : Items) (old : KeptDatabase K) (o : Option Outcome) (waited waits : WaitingFrames)
-    → IsAnswer on old results → PostsIfRoom (results_to n id results) waited o waits → IsTrial (request ms n id on) (trial_state old waited) (Done o) (trial_state old waits)
+    → IsUnstoredAnswer on old results → PostsIfRoom (results_to n id results) waited o waits → IsTrial (request ms n id on) (trial_state old waited) (Done o) (trial_state old waits)
 answers ms n id (Completes made database) results old o waited waits (inl (same, made_is)) posts = at_once ms n id made database (results_to n id results) old waited waits o (λ s. rw (same, made_is) refl) posts
 answers ms n id (Completes made database) results old o waited waits (inr (other, sealed, made_is)) posts = at_once ms n id made database (results_to n id results) old waited waits o (λ s. rw (other, sealed, made_is) refl) posts
 answers ms n id (Waits timeout) results old o waited waits never posts = absurd never

@@ -5,7 +5,7 @@ use Rattle.std.specs.FinMap.Entries.{below_all}
 use Rattle.ov_specs.specs.rows.Database.{Database, Row}
 use Rattle.ov_specs.specs.rows.Lines.{LineKey, line_cmp}
 use Rattle.ov_specs.proofs.laws.LineKeys.{key_exact, key_total, tied_same}
-use Rattle.ov_db.specs.Changing.{Delta, applied, with_change, with_changes}
+use Rattle.ov_db.specs.Changing.{Delta, applied, with_row_change, with_row_changes}
 use Rattle.ov_db.specs.Placing.{IsSameBeside}
 use Rattle.ov_db.proofs.Added.{same}
 use Rattle.ov_specs.proofs.laws.Truths.{left_holds, right_holds, zero_is, not_tied}
@@ -55,7 +55,7 @@ abbrev pub or_before : Option (Option Row) → Option Row → Option Row
 or_before (Some new) old = new
 or_before None old = old
 
-pub at_one : (k : LineKey) (o : Option Row) (db : Database) (q : LineKey) → get (with_change k o db) q ≡ cond (same q k) o (get db q)
+pub at_one : (k : LineKey) (o : Option Row) (db : Database) (q : LineKey) → get (with_row_change k o db) q ≡ cond (same q k) o (get db q)
 at_one k (Some r) db q = get-insert key_total db k r q
 at_one k None db q = get-remove key_total db k q
 
@@ -63,10 +63,10 @@ in_turn : (b : Bool) (new : Option Row) (rest : Option (Option Row)) (old : Opti
 in_turn true new rest old h = rw (h refl) refl
 in_turn false new rest old h = refl
 
-pub get-with_changes : (cs : Changes) (db : Database) (q : LineKey) → T (is_sorted line_cmp cs) → get (with_changes cs db) q ≡ or_before (find line_cmp q cs) (get db q)
+pub get-with_changes : (cs : Changes) (db : Database) (q : LineKey) → T (is_sorted line_cmp cs) → get (with_row_changes cs db) q ≡ or_before (find line_cmp q cs) (get db q)
 get-with_changes [] db q h = refl
 get-with_changes (c ∷ cs) db q h =
-    get-with_changes cs (with_change c.0 c.1 db) q (right_holds _ _ h) ∙ ap (or_before (find line_cmp q cs)) (at_one c.0 c.1 db q)
+    get-with_changes cs (with_row_change c.0 c.1 db) q (right_holds _ _ h) ∙ ap (or_before (find line_cmp q cs)) (at_one c.0 c.1 db q)
     ∙ in_turn (same q c.0) c.1 (find line_cmp q cs) (get db q) (λ is. ap (λ k. find line_cmp k cs) (tied_same q c.0 is) ∙ find-rest c cs h)
 
 -- what the delta leaves at a key
@@ -126,7 +126,7 @@ left-later rest later e q r db is placed absent found = by_test (same q e.0) ref
 
 -- ---- changes are made, one by one
 
-pub row-stays : (k : LineKey) (o : Option Row) (db : Database) (q : LineKey) → same q k ≡ false → contains_key (with_change k o db) q ≡ contains_key db q
+pub row-stays : (k : LineKey) (o : Option Row) (db : Database) (q : LineKey) → same q k ≡ false → contains_key (with_row_change k o db) q ≡ contains_key db q
 row-stays k o db q tied = ap is_some (at_one k o db q ∙ ap (λ b. cond b o (get db q)) tied)
 
 -- a change of a key without a place is a removal
@@ -150,4 +150,4 @@ all-placed rest db q r none left = by_test (contains_key db q) refl
 
 -- without a change nothing is changed
 pub applied-none : (delta : Delta) (db : Database) → (len delta == 0) ≡ true → applied delta db ≡ db
-applied-none delta db h = ap (λ cs. with_changes cs db) (nil_from_length (entries delta) (sym (len-entries delta) ∙ zero_is (len delta) h))
+applied-none delta db h = ap (λ cs. with_row_changes cs db) (nil_from_length (entries delta) (sym (len-entries delta) ∙ zero_is (len delta) h))

@@ -12,7 +12,7 @@ use Rattle.ov_specs.specs.rows.Suits.{Suits}
 use Rattle.ov_specs.specs.schema.SchemaTypes.{Schema}
 use Rattle.ov_specs.proofs.laws.LineKeys.{key_exact, key_total}
 use Rattle.ov_specs.proofs.laws.Truths.{both_hold, left_holds, right_holds}
-use Rattle.ov_db.specs.Changing.{as_puts, change_of, with_changes}
+use Rattle.ov_db.specs.Changing.{as_puts, change_of, with_row_changes}
 use Rattle.ov_db.specs.Stored.{ArePutRead, KeepsRows}
 use Rattle.ov_db.proofs.Added.{same}
 use Rattle.ov_db.proofs.CellMaps.{cell_lines-empty}
@@ -55,7 +55,7 @@ found_puts key (r ∷ rows) = by (same key r.0) (found_puts key rows)
 put_at : (database : Database) (key : LineKey) → find line_cmp key (as_puts (entries database)) ≡ option_map Some (get database key)
 put_at database key = found_puts key (entries database) ∙ ap (option_map Some) (sym (get-entries database key))
 
-put_all : (database : Database) → with_changes (as_puts (entries database)) empty ≡ database
+put_all : (database : Database) → with_row_changes (as_puts (entries database)) empty ≡ database
 put_all database = same_map key_total key_exact _ _ (λ key.
     get-with_changes (as_puts (entries database)) empty key (sorted_puts (entries database) (entries_sorted database))
     ∙ ap (λ o. or_before o (get (empty {K = LineKey} {X = Row} {R = line_cmp}) key)) (put_at database key) ∙ by key (get database key))

@@ -12,18 +12,18 @@ abbrev pub Delta : Type 0
 Delta = FinMap line_cmp (Option Row)
 
 -- the database with this row at the key, or with none there
-abbrev pub with_change : LineKey → Option Row → Database → Database
-with_change key (Some row) database = insert database key row
-with_change key None database = remove database key
+abbrev pub with_row_change : LineKey → Option Row → Database → Database
+with_row_change key (Some row) database = insert database key row
+with_row_change key None database = remove database key
 
 -- the database after these changes, made in order
-abbrev pub with_changes : List (LineKey × Option Row) → Database → Database
-with_changes [] database = database
-with_changes (change ∷ changes) database = with_changes changes (with_change change.0 change.1 database)
+abbrev pub with_row_changes : List (LineKey × Option Row) → Database → Database
+with_row_changes [] database = database
+with_row_changes (change ∷ changes) database = with_row_changes changes (with_row_change change.0 change.1 database)
 
 -- the database after all changes of the delta
 abbrev pub applied : Delta → Database → Database
-applied delta database = with_changes (entries delta) database
+applied delta database = with_row_changes (entries delta) database
 
 -- what a change makes of what is stored under its key
 abbrev pub change_of : LineKey × Option Row → CellChange

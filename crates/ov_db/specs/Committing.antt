@@ -25,8 +25,8 @@ IsHeld schema committed sealed held =
     (held ≡ stored_of schema committed) ⊎ ((database : Database) × (sealed ≡ Some database) × (held ≡ stored_of schema database))
 
 -- whatever an open may find now is that
-abbrev pub MayHold : (Stored → Type 0) → Schema → Database → Option Database → Type 0
-MayHold leaves schema committed sealed = (held : Stored) → leaves held → IsHeld schema committed sealed held
+abbrev pub MayBeHeld : (Stored → Type 0) → Schema → Database → Option Database → Type 0
+MayBeHeld leaves schema committed sealed = (held : Stored) → leaves held → IsHeld schema committed sealed held
 
 -- the committed rows, and those that a failed commit would have made, are rows of the schema that read back, and are whole:
 -- a commit leaves them as they are

@@ -9,7 +9,7 @@ use Rattle.ov_keeper.specs.declared.keeper.Keeper.{Ghosts}
 use Rattle.ov_keeper.specs.Keeping.{HasFailed}
 use Rattle.ov_db.specs.declared.fault.OpenFault.{OpenFault}
 use Rattle.ov_db.specs.declared.fault.OpenFault.TheVariants.{SchemaDiffers, Keeping}
-use Rattle.ov_db.specs.Committing.{AreKept, MayHold}
+use Rattle.ov_db.specs.Committing.{AreKept, MayBeHeld}
 use Rattle.ov_db.specs.Opening.{FindsOne, IsFaultAs, IsReadFault, LeavesOpened, LeavesUnopened, TellsRefusal, opens_as}
 
 module _ {K : Type 0} (k : Ghosts K) (schema : Schema) (version : Option Uuid) (old new : K) where
@@ -19,7 +19,7 @@ module _ {K : Type 0} (k : Ghosts K) (schema : Schema) (version : Option Uuid) (
     pub kept : AreKept schema database None
     pub held : k.is_honest new → (held : Stored) → k.leaves old held → opens_as schema version held ≡ Ok database
     pub left : k.is_honest new → LeavesOpened (k.leaves old) (k.leaves new) (opens_as schema version) schema database
-    pub found : k.is_honest new → MayHold (k.leaves new) schema database None
+    pub found : k.is_honest new → MayBeHeld (k.leaves new) schema database None
     pub honest : k.is_honest new → k.is_honest old
 
   -- nothing was opened

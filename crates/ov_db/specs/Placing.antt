@@ -6,8 +6,8 @@ use Rattle.ov_specs.specs.rows.Lines.{LineKey}
 use Rattle.ov_db.specs.Changing.{Delta}
 
 -- there is a row at each key that the changes give a row
-abbrev pub IsPlaced : Delta → Database → Type 0
-IsPlaced delta database = (key : LineKey) (row : Row) → get delta key ≡ Some (Some row) → contains_key database key ≡ true
+abbrev pub HasPlacesFor : Delta → Database → Type 0
+HasPlacesFor delta database = (key : LineKey) (row : Row) → get delta key ≡ Some (Some row) → contains_key database key ≡ true
 
 -- the two have the same rows at all keys that are not changed
 abbrev pub IsSameBeside : Delta → Database → Database → Type 0

@@ -6,9 +6,9 @@ ghost use Rattle.ov_specs.specs.rows.Cells.{RemoveCells, cell_line_of};
 ghost use Rattle.ov_specs.specs.rows.Lines.{LineKey, line_cmp};
 ghost use Rattle.ov_keeper.specs.Views.{changes_view, change_view, cell_line_entry};
 ghost use Rattle.ov_db.specs.Adding.{lent_keys};
-ghost use Rattle.ov_db.specs.Changing.{applied, as_puts, change_of, with_change};
+ghost use Rattle.ov_db.specs.Changing.{applied, as_puts, change_of, with_row_change};
 ghost use Rattle.ov_rows.specs.Nested.{in_table};
-ghost use Rattle.ov_db.specs.Placing.{IsPlaced, IsSameBeside};
+ghost use Rattle.ov_db.specs.Placing.{HasPlacesFor, IsSameBeside};
 ghost use Rattle.ov_db.specs.Stored.{AreCellsRead, IsPutRead, ArePutRead};
 
 use crate::cells::cells_of;
@@ -107,7 +107,7 @@ pub(crate) fn place<'a>(
     requires { added.old.items ≡ [] }
     ensures added { without_rows (lent_keys added.new.items) rows.new ≡ rows.old }
     ensures same { OnOk result (IsSameBeside delta.now rows.old rows.new) }
-    ensures placed { OnOk result (IsPlaced delta.now rows.new) }
+    ensures placed { OnOk result (HasPlacesFor delta.now rows.new) }
 {
     let nothing = ColumnNames::new(alloc, Vec::new(alloc))?;
     for (key, row) in &delta.changes {
@@ -180,7 +180,7 @@ pub(crate) fn take_out(rows: &mut Rows, added: Vec<&RowKey>)
 
 /// Makes the changes. Nothing grows, since each new row has a place.
 pub(crate) fn make(alloc: Global, rows: &mut Rows, delta: Delta)
-    requires { IsPlaced delta rows.old }
+    requires { HasPlacesFor delta rows.old }
     ensures { rows.new ≡ applied delta rows.old }
 {
     for (key, row) in delta.changes {
@@ -191,7 +191,7 @@ pub(crate) fn make(alloc: Global, rows: &mut Rows, delta: Delta)
 /// Makes one change. If it puts a row, there is a place for it.
 fn make_one(alloc: Global, rows: &mut Rows, key: &RowKey, row: Option<Row>)
     requires { contains_key rows.old key.now ≡ false → row ≡ None }
-    ensures { rows.new ≡ with_change key.now row rows.old }
+    ensures { rows.new ≡ with_row_change key.now row rows.old }
 {
     match row {
         Some(row) => {

@@ -13,7 +13,7 @@ ghost use Rattle.ov_refs.specs.Counting.{in_64_bits, strong_count};
 ghost use Rattle.ov_refs.specs.Linking.{AreLinksOf};
 ghost use Rattle.ov_index.specs.Indexing.{AreIndexesOf};
 ghost use Rattle.ov_specs.specs.integrity.Committed.{is_whole};
-ghost use Rattle.ov_db.specs.Committing.{AreKept, Commits, MayFind, MayHold};
+ghost use Rattle.ov_db.specs.Committing.{AreKept, Commits, MayFind, MayBeHeld};
 ghost use Rattle.ov_db.specs.Lookups.{TellsIndexed, if_any, weak_holders};
 ghost use Rattle.ov_db.specs.Opening.{FindsOne, IsConvertFault, IsOpenFault, IsReadFault};
 ghost use Rattle.ov_db.specs.Opening.{LeavesOpened, LeavesUnopened, TellsRefusal, open_of};
@@ -51,7 +51,7 @@ impl<K: Keeper> Model for Db<K> {
     ghost use Rattle.std.specs.Coded.{codes};
     ghost use Rattle.ov_specs.specs.codes.SchemaCode.{schema_code};
     ghost use Rattle.ov_db.specs.Changing.{applied};
-    ghost use Rattle.ov_db.specs.Committing.{MayHold, AreKept};
+    ghost use Rattle.ov_db.specs.Committing.{MayBeHeld, AreKept};
     ghost use Rattle.ov_db.specs.KeptDatabase.{KeptDatabase};
     ghost use Rattle.ov_db.specs.Residing.{IsBeside};
     ghost use Rattle.ov_rows.specs.Resident.{database_code};
@@ -69,7 +69,7 @@ impl<K: Keeper> Model for Db<K> {
 
     ghost invariant = { λ d. (K.Keeper.format d.keeper ≡ 2)
         × (K.Keeper.is_honest d.keeper
-        → MayHold (K.Keeper.leaves d.keeper) d.schema d.resident.rows
+        → MayBeHeld (K.Keeper.leaves d.keeper) d.schema d.resident.rows
         (option_map (λ delta. applied delta d.resident.rows) d.failed))
         × AreKept d.schema d.resident.rows
         (option_map (λ delta. applied delta d.resident.rows) d.failed)
@@ -304,7 +304,7 @@ impl<K: Keeper + Drop> Db<K> {
 
     /// For contracts: what a crash at this moment leaves. Does nothing.
     pub fn shows_left(&self)
-        ensures held { K.is_honest self.now.keeper → MayHold
+        ensures held { K.is_honest self.now.keeper → MayBeHeld
             (K.leaves self.now.keeper) self.now.schema self.now.committed self.now.sealed }
         ensures found { K.is_honest self.now.keeper → MayFind
             (K.leaves self.now.keeper) self.now.schema self.now.committed self.now.sealed }

@@ -82,8 +82,7 @@ fn row_by_guess(
     })
 }
 
-/// Whether these are values for the table's columns except those that every row has by itself, one for each and in their
-/// order.
+/// Whether these are values for the table's columns except `_uuid` and `_version`, one for each and in their order.
 pub(crate) fn are_values_for(table: &Table, values: ValueIter<'_>) -> bool
     ensures { result ≡ are_values_for table.now values.entry }
 {
@@ -126,7 +125,7 @@ fn row_in_full(alloc: Global, table: &Table, line: &Line) -> Result<Row, OpenFau
     }
 }
 
-/// All columns of the table except those that every row has by itself, each with its value from the text.
+/// All columns of the table except `_uuid` and `_version`, each with its value from the text.
 fn columns_of(alloc: Global, table: &Table, text: &[u8]) -> Result<Columns, OpenFault>
     ensures { IsLoaded (λ columns. columns) (columns_stored (OneText text.now) table.now) result }
 {
@@ -135,7 +134,7 @@ fn columns_of(alloc: Global, table: &Table, text: &[u8]) -> Result<Columns, Open
     Ok(Columns::of(alloc, table.names_of_row(), values)?)
 }
 
-/// The values that the body has for all columns of the table except those that every row has by itself.
+/// The values that the body has for all columns of the table except `_uuid` and `_version`.
 fn values_of(alloc: Global, table: &Table, body: &Option<Value>) -> Result<NamedValues, OpenFault>
     ensures { IsLoaded (λ values. values) (columns_by (trees_in (option_map view body.now))
         table.now) result }

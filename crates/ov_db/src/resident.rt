@@ -49,7 +49,7 @@ impl Resident {
     ghost use Rattle.ov_specs.specs.schema.SchemaTypes.{Schema};
     ghost use Rattle.ov_db.specs.Changing.{Delta, applied};
     ghost use Rattle.ov_db.specs.Opening.{IsNotWhole};
-    ghost use Rattle.ov_db.specs.Placing.{IsPlaced};
+    ghost use Rattle.ov_db.specs.Placing.{HasPlacesFor};
     ghost use Rattle.ov_db.specs.Residing.{IsBeside, IsResident, IsNoRoom, IsReady, LeadsBack};
     ghost use Rattle.ov_db.specs.Residing.{LeadsOn};
 
@@ -117,7 +117,7 @@ impl Resident {
 
     /// Makes the changes. Space for them is reserved, so nothing grows.
     pub(crate) fn make(&mut self, alloc: Global, delta: Delta)
-        requires { IsPlaced delta self.old.rows }
+        requires { HasPlacesFor delta self.old.rows }
         ensures { (schema : Schema) (database : Database) → IsReady schema delta database self.old
             → IsResident schema (applied delta database) self.new }
     {

@@ -12,7 +12,7 @@ use Rattle.ov_history.specs.declared.event.Cause.{Cause}
 use Rattle.ov_core.specs.Following.{CoreState}
 use Rattle.ov_lanes.specs.Since.{Since, course_of, and_then_handed}
 use Rattle.ov_desk.specs.LinkStates.{LinkState}
-use Rattle.ov_desk.specs.Outcome.{Account, Finish, Outcome}
+use Rattle.ov_desk.specs.Outcome.{Account, Finish, LinkOutcome}
 use Rattle.ov_desk.specs.Ending.{EndsAfter, finish_for, CourseEnds, LinkEnds}
 use Rattle.ov_lanes.proofs.Unopened.{later_is_unopened}
 
@@ -25,14 +25,14 @@ abbrev pub said : Option machine.Cause → List Message → List (List ℕ) → 
 said closed messages sent = record { closed = closed; messages = messages; sent = sent }
 
 pub outcome_as : (closed closed' : Option machine.Cause) (messages messages' : List Message) (sent sent' : List (List ℕ)) (finish : Finish) (x y : LinkState)
-    → closed' ≡ closed → messages' ≡ messages → sent' ≡ sent → Outcome (said closed messages sent) finish x y → Outcome (said closed' messages' sent') finish x y
+    → closed' ≡ closed → messages' ≡ messages → sent' ≡ sent → LinkOutcome (said closed messages sent) finish x y → LinkOutcome (said closed' messages' sent') finish x y
 outcome_as closed closed' messages messages' sent sent' finish x y a b c o =
-    subst (λ k. Outcome (said k messages' sent') finish x y) (sym a)
-    (subst (λ k. Outcome (said closed k sent') finish x y) (sym b)
-    (subst (λ k. Outcome (said closed messages k) finish x y) (sym c) o))
+    subst (λ k. LinkOutcome (said k messages' sent') finish x y) (sym a)
+    (subst (λ k. LinkOutcome (said closed k sent') finish x y) (sym b)
+    (subst (λ k. LinkOutcome (said closed messages k) finish x y) (sym c) o))
 
 module _ {K D : Type 0} {old new : CoreState K D} (since : Since old new) (n : ℕ) (later : old.state.next ≤ n) (none_left : waiting_for n new.outbox ≡ []) where
-  pub ends_past : (finish : Finish) (x y : LinkState) → Outcome (said (closed_by old.state since.entries n) (requests since.entries n) (since.handed n)) finish x y → EndsAfter since n finish x y
+  pub ends_past : (finish : Finish) (x y : LinkState) → LinkOutcome (said (closed_by old.state since.entries n) (requests since.entries n) (since.handed n)) finish x y → EndsAfter since n finish x y
   ends_past finish x y o schema database history given f =
       let f' = since.follows (opening schema database) history given f in
       let before : machine.Stepped = record { state = old.state; sent = f.sent } in

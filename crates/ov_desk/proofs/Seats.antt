@@ -10,7 +10,7 @@ use Rattle.ov_lanes.specs.Lanes.{SameLane, StaysAs, StayAs, IsNewLane, AreNewLan
 use Rattle.ov_lanes.specs.Pairs.{Threewise}
 use Rattle.ov_lanes.specs.declared.lane.Lane.{Lane}
 use Rattle.ov_lanes.specs.declared.link.Link.{Link}
-use Rattle.ov_workers.specs.Handing.{kept}
+use Rattle.ov_workers.specs.Handing.{kept_if}
 use Rattle.ov_workers.specs.declared.workers.Workers.{Workers}
 use Rattle.ov_sessions.specs.declared.session.Session.{Session}
 use Rattle.ov_lanes.specs.Opening.{AreSessions}
@@ -135,14 +135,14 @@ module _ {S W L : Type 0} where
 
 -- ---- workers that were started, and have a lane now
 
-kept_some : {T : Type 0} (b : Bool) (o : Option T) (x : T) → b ≡ true → o ≡ kept b x → o ≡ Some x
+kept_some : {T : Type 0} (b : Bool) (o : Option T) (x : T) → b ≡ true → o ≡ kept_if b x → o ≡ Some x
 kept_some true o x e is = is
 kept_some false o x e is = absurd (false≢true e)
 
-pub kept_not_none : {T : Type 0} (b : Bool) (o p : Option T) (x : T) → b ≡ true → o ≡ kept b x → p ≡ o → p ≡ None → ⊥
+pub kept_not_none : {T : Type 0} (b : Bool) (o p : Option T) (x : T) → b ≡ true → o ≡ kept_if b x → p ≡ o → p ≡ None → ⊥
 kept_not_none b o p x e is same none = let s = kept_some b o x e is in let other : None ≡ Some x = sym none ∙ (same ∙ s) in cc
 
-pub kept_is : {T : Type 0} (b : Bool) (o p : Option T) (x y : T) → b ≡ true → o ≡ kept b x → p ≡ o → p ≡ Some y → x ≡ y
+pub kept_is : {T : Type 0} (b : Bool) (o p : Option T) (x y : T) → b ≡ true → o ≡ kept_if b x → p ≡ o → p ≡ Some y → x ≡ y
 kept_is b o p x y e is same there = same_Some x y (sym (kept_some b o x e is) ∙ (sym same ∙ there))
 
 module _ {S W L : Type 0} (keeps : Bool) (serial : ℕ) (s : Started S W L) (l : Lane) (v : Workers S W L) (started : IsStarted keeps serial s)

@@ -2,7 +2,7 @@
 use Rattle.std.proofs.Common.{◌≡◌, ◌≢◌, ℕ, List, [], ◌∷◌, ◌++◌, length, refl, sym, ap, subst, ◌∙◌, append_assoc, append-nil, arith, Bool, true, false, Option, Some}
 use Rattle.std.specs.Prelude.{not, unwrap_or, MatchBool}
 use Rattle.std.proofs.lemmas.Bool.{false≢true}
-use mathlib.Core.List.{IsPrefix}
+use Rattle.ov_specs.specs.wire.Beginning.{BeginsAs}
 use Rattle.ov_ends.specs.States.{SourceState, SinkState}
 use Rattle.ov_specs.specs.wire.Message.{Message, Asked, asked}
 use Rattle.ov_specs.specs.machine.Machine as machine
@@ -13,7 +13,7 @@ use Rattle.ov_order.specs.declared.items.Sent.TheVariants.{End}
 use Rattle.ov_workers.specs.declared.cause.ReadCause.{ReadCause}
 use Rattle.ov_workers.specs.declared.cause.ReadCause.TheVariants as reads
 use Rattle.ov_workers.specs.Stream.{AreReadUntil}
-use Rattle.ov_workers.specs.Reading.{SuitsSource, Brings as ReaderBrings}
+use Rattle.ov_workers.specs.Reading.{SuitsSource, BringsItems}
 use Rattle.ov_workers.specs.Writing.{Writes}
 use Rattle.ov_ends.specs.Ends.{KeepsInput, GivesWritten}
 use Rattle.ov_ends.specs.Writing.{WritesOf}
@@ -24,16 +24,16 @@ use Rattle.ov_lanes.specs.Courses.{Course}
 use Rattle.ov_lanes.specs.Fitting.{Items, brought, end_cause, is_of_reader, is_by_reader, Took, framed, FitsCourse}
 use Rattle.ov_lanes.proofs.Fitting.{knows_marked}
 use Rattle.ov_desk.specs.LinkStates.{link_state}
-use Rattle.ov_desk.specs.Outcome.{SuitsReader, SuitsWriter, Finish, Outcome, account_of}
+use Rattle.ov_desk.specs.Outcome.{SuitsReader, SuitsWriter, Finish, LinkOutcome, account_of}
 use Rattle.ov_desk.specs.Ending.{CourseEnds}
 
 -- ---- the reader
 
-cons_prefix : (a b : Message) (xs bs : List Message) → a ≡ b → IsPrefix xs bs → IsPrefix (a ∷ xs) (b ∷ bs)
+cons_prefix : (a b : Message) (xs bs : List Message) → a ≡ b → BeginsAs xs bs → BeginsAs (a ∷ xs) (b ∷ bs)
 cons_prefix a b xs bs e p = (p.0, ap (λ t. a ∷ t) p.1 ∙ ap (λ x. x ∷ bs) e)
 
 -- what was taken is a beginning of what was brought
-begins : (asks messages : List Message) (others : Items) (cause : ReadCause) → brought asks ++ others ≡ brought messages ++ Last cause ∷ [] → IsPrefix asks messages
+begins : (asks messages : List Message) (others : Items) (cause : ReadCause) → brought asks ++ others ≡ brought messages ++ Last cause ∷ [] → BeginsAs asks messages
 begins [] messages others cause e = (messages, refl)
 begins (a ∷ asks) [] others cause e = cc
 begins (a ∷ asks) (m ∷ messages) others cause e = cons_prefix a m asks messages (cc) (begins asks messages others cause (cc))
@@ -45,14 +45,14 @@ ends_same [] (m ∷ messages) others last cause e = cc
 ends_same (a ∷ asks) [] others last cause e = cc
 ends_same (a ∷ asks) (m ∷ messages) others last cause e = let r = ends_same asks messages others last cause (cc) in (let same : asks ≡ messages = r.0 in cc, r.1)
 
-prefix_along : {A : Type 0} (xs ys zs : List A) → IsPrefix xs ys → IsPrefix ys zs → IsPrefix xs zs
+prefix_along : {A : Type 0} (xs ys zs : List A) → BeginsAs xs ys → BeginsAs ys zs → BeginsAs xs zs
 prefix_along xs ys zs p q = (p.0 ++ q.0, sym (append_assoc xs p.0 q.0) ∙ (ap (λ t. t ++ q.0) p.1 ∙ q.1))
 
-same_prefix : {A : Type 0} (xs ys : List A) → xs ≡ ys → IsPrefix xs ys
+same_prefix : {A : Type 0} (xs ys : List A) → xs ≡ ys → BeginsAs xs ys
 same_prefix xs ys e = ([], append-nil xs ∙ e)
 
 -- what was brought is a beginning of what is asked for
-asked_begins : (cause : ReadCause) (messages : List Message) (a : Asked) → AreReadUntil cause messages a → IsPrefix messages a.messages
+asked_begins : (cause : ReadCause) (messages : List Message) (a : Asked) → AreReadUntil cause messages a → BeginsAs messages a.messages
 asked_begins reads.InputEnded messages a is = same_prefix messages a.messages (ap (λ (b : Asked). b.messages) (sym is))
 asked_begins reads.ReadFault messages a is = same_prefix messages a.messages (ap (λ (b : Asked). b.messages) (sym is))
 asked_begins reads.Damaged messages a is = same_prefix messages a.messages (ap (λ (b : Asked). b.messages) (sym is))
@@ -84,7 +84,7 @@ others_suit machine.Memory damaged source source' not_of = tt
 pub record ReadSide (messages : List Message) (why : machine.Cause) (source source' : SourceState) : Type 0 where
   pub stream : List ℕ
   pub read : source'.read ≡ source.read ++ stream
-  pub asks : IsPrefix messages (asked stream).messages
+  pub asks : BeginsAs messages (asked stream).messages
   pub all_asked : is_of_reader why ≡ true → messages ≡ (asked stream).messages
   pub reader : SuitsReader why (asked stream).damaged source source'
   pub input : KeepsInput source.read source.remaining source'.read source'.remaining
@@ -97,7 +97,7 @@ module _ (asks : List Message) (why : machine.Cause) (source source' : SourceSta
   end_parts : (of : is_of_reader why ≡ true) → brought asks ++ Last (took.2 of).0 ∷ ((took.2 of).1 ++ known) ≡ put
   end_parts of = ap (λ (l : Items). brought asks ++ (l ++ known)) (sym (took.2 of).2) ∙ parts
 
-  brings_side : (cause : ReadCause) → ReaderBrings cause source source' put → (b : Bool) → is_of_reader why ≡ b → ReadSide asks why source source'
+  brings_side : (cause : ReadCause) → BringsItems cause source source' put → (b : Bool) → is_of_reader why ≡ b → ReadSide asks why source source'
   brings_side cause r false not_of = record {
     stream = r.stream;
     read = r.read;
@@ -119,7 +119,7 @@ module _ (asks : List Message) (why : machine.Cause) (source source' : SourceSta
         input = r.input;
       }
 
-  pub read_side : (cause : ReadCause) → ReaderBrings cause source source' put → ReadSide asks why source source'
+  pub read_side : (cause : ReadCause) → BringsItems cause source source' put → ReadSide asks why source source'
   read_side cause r = brings_side cause r (is_of_reader why) refl
 
 -- ---- the writer
@@ -161,9 +161,9 @@ module _ (c : Course) (known : Option Cause) (items rest put : Items) (sent take
   closed = knows_marked c.closed known (f.opens ∙ ap not f.puts.0) f.knows
 
   pub comes_to : (source source' : SourceState) (sink sink' : SinkState) (end : ReadCause) (whole : Bool) → items ++ rest ≡ put → taken ++ coming ≡ sent
-      → ReaderBrings end source source' put
+      → BringsItems end source source' put
       → Writes whole sink sink' taken
-      → Outcome (account_of c) (finished known whole) (link_state source sink) (link_state source' sink')
+      → LinkOutcome (account_of c) (finished known whole) (link_state source sink) (link_state source' sink')
   comes_to source source' sink sink' end whole fifo fifo' reads writes =
       let r = read_side c.asks (cause_view (unwrap_or known Memory)) source source' items rest put (subst (λ (o : Option machine.Cause). Took o c.asks items) closed f.took) fifo end reads in
       let w = write_side f.puts.2.0 sink sink' taken coming (fifo' ∙ f.puts.2.1) whole writes in
@@ -197,7 +197,7 @@ written_for Memory ne = refl
 module _ (c : Course) (known : Option Cause) (items rest put : Items) (sent taken coming : List Sent) (f : FitsCourse c known items sent true true) where
   -- by the cause that is reported
   pub ends_for : (source source' : SourceState) (sink sink' : SinkState) (end : ReadCause) (failed : Bool) (told : Cause) → items ++ rest ≡ put → taken ++ coming ≡ sent
-      → ReaderBrings end source source' put
+      → BringsItems end source source' put
       → Writes (not failed) sink sink' taken
       → MatchBool failed (told ≡ WriteFault) (told ≡ unwrap_or known Memory)
       → CourseEnds c told (link_state source sink) (link_state source' sink')
@@ -206,7 +206,7 @@ module _ (c : Course) (known : Option Cause) (items rest put : Items) (sent take
       record {
         why = cause_view (unwrap_or known Memory);
         told_for = λ whole. absurd (false≢true (sym (ap is_written is) ∙ whole));
-        comes_to = subst (λ (b : Bool). Outcome (account_of c) (finished known b) (link_state source sink) (link_state source' sink')) (sym (ap is_written is)) o;
+        comes_to = subst (λ (b : Bool). LinkOutcome (account_of c) (finished known b) (link_state source sink) (link_state source' sink')) (sym (ap is_written is)) o;
         none_left = f.puts.1;
       }
   ends_for source source' sink sink' end false told fifo fifo' reads writes is =
@@ -214,6 +214,6 @@ module _ (c : Course) (known : Option Cause) (items rest put : Items) (sent take
       record {
         why = cause_view (unwrap_or known Memory);
         told_for = λ whole. ap cause_view is;
-        comes_to = subst (λ (b : Bool). Outcome (account_of c) (finished known b) (link_state source sink) (link_state source' sink')) (sym (ap is_written is ∙ written_for (unwrap_or known Memory) o.unfailed)) o;
+        comes_to = subst (λ (b : Bool). LinkOutcome (account_of c) (finished known b) (link_state source sink) (link_state source' sink')) (sym (ap is_written is ∙ written_for (unwrap_or known Memory) o.unfailed)) o;
         none_left = f.puts.1;
       }

@@ -13,15 +13,15 @@ use Rattle.ov_desk.specs.declared.admit.AdmitFault.{AdmitFault}
 use Rattle.ov_desk.specs.declared.admit.AdmitFault.TheVariants as fault
 
 -- a place that was free has the lane of the session of this serial now
-abbrev pub TakesPlace : ℕ → List (Option Lane) → List (Option Lane) → Type 0
-TakesPlace serial places places' =
+abbrev pub TakesFreePlace : ℕ → List (Option Lane) → List (Option Lane) → Type 0
+TakesFreePlace serial places places' =
     (at : ℕ) × (lane : Lane) × (at < length places) × (slice_index_or places at None ≡ None) × (places' ≡ slice_set places at (Some lane)) × (lane.session.serial ≡ serial)
 
 -- One session was opened, with the next serial, and has a place that was free.
 pub record OpensOne {K D : Type 0} (old new : Desk K D) : Type 0 where
   pub opened : is_open new.core.state old.core.state.next ≡ true
   pub next : new.core.state.next ≡ old.core.state.next + 1
-  pub place : TakesPlace old.core.state.next old.lanes.items new.lanes.items
+  pub place : TakesFreePlace old.core.state.next old.lanes.items new.lanes.items
 
 -- nothing is changed
 abbrev pub IsSameDesk : {K D : Type 0} → Desk K D → Desk K D → Type 0

@@ -1,5 +1,5 @@
 -- What a history says of a session that was served to its end.
-use Rattle.std.specs.Prelude.{◌≡◌, ℕ, ◌++◌, List, [], Bool, true, false, Some}
+use Rattle.std.specs.Prelude.{◌≡◌, ℕ, ◌++◌, List, [], true, Some}
 use Rattle.ov_specs.specs.machine.Machine as machine
 use Rattle.ov_specs.specs.machine.Machine.{State, opening}
 use Rattle.ov_specs.specs.machine.History.{run, requests, frames_to, closed_by}
@@ -11,14 +11,14 @@ use Rattle.ov_core.specs.Following.{CoreState, Follows}
 use Rattle.ov_lanes.specs.Courses.{Course}
 use Rattle.ov_lanes.specs.Since.{Since}
 use Rattle.ov_desk.specs.LinkStates.{LinkState}
-use Rattle.ov_desk.specs.Outcome.{Finish, Outcome, account_of}
+use Rattle.ov_desk.specs.Outcome.{Finish, LinkOutcome, account_of}
 
 -- The history is legal from `start` on, and it closes the session for this cause, once, since a serial is never used again.
 -- The messages that it has of the session are what its stream asks for, and what was written is what it sends the session.
 pub record EndsAs (start : State) (history : List machine.Entry) (n : ℕ) (finish : Finish) (old new : LinkState) : Type 0 where
   pub reached : machine.Stepped
   pub legal : run start history ≡ Some reached
-  pub comes_to : Outcome (record { closed = closed_by start history n; messages = requests history n; sent = frames_to n reached.sent }) finish old new
+  pub comes_to : LinkOutcome (record { closed = closed_by start history n; messages = requests history n; sent = frames_to n reached.sent }) finish old new
 
 -- whatever history the core had followed from its opening, this is what it says of the session with the entries appended
 abbrev pub EndsAfter : {K D : Type 0} {first core : CoreState K D} → Since first core → ℕ → Finish → LinkState → LinkState → Type 0
@@ -34,7 +34,7 @@ finish_for why told = record { why = why; is_whole = is_written told }
 pub record CourseEnds (c : Course) (told : Cause) (old new : LinkState) : Type 0 where
   pub why : machine.Cause
   pub told_for : is_written told ≡ true → cause_view told ≡ why
-  pub comes_to : Outcome (account_of c) (finish_for why told) old new
+  pub comes_to : LinkOutcome (account_of c) (finish_for why told) old new
   pub none_left : c.waiting ≡ []
 
 -- so it is in each history

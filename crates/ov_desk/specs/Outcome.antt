@@ -1,7 +1,7 @@
 -- What the serving of a session comes to, for its reader and its writer.
 use Rattle.std.specs.Prelude.{◌≡◌, ◌≢◌, ◌<◌, ℕ, ◌++◌, List, Bool, true, false, Option, Some, length}
 use Rattle.std.specs.Io.KnownBytes.{IsAtEnd}
-use mathlib.Core.List.{IsPrefix}
+use Rattle.ov_specs.specs.wire.Beginning.{BeginsAs}
 use Rattle.ov_ends.specs.States.{SourceState, SinkState}
 use Rattle.ov_specs.specs.wire.Message.{Message, asked}
 use Rattle.ov_specs.specs.machine.Machine as machine
@@ -46,17 +46,17 @@ pub record Finish : Type 0 where
 -- if its reader closed it. What was written are the first of the frames that were sent to it, and all of them if its reader
 -- closed it; or a beginning of that if a write failed. A session that did not take what was sent to it was sent more frames
 -- than its ring has room for.
-pub record Outcome (says : Account) (finish : Finish) (old new : LinkState) : Type 0 where
+pub record LinkOutcome (says : Account) (finish : Finish) (old new : LinkState) : Type 0 where
   pub closed_for : says.closed ≡ Some finish.why
   pub unfailed : finish.why ≢ machine.WriteFault
   pub stream : List ℕ
   pub read : new.source.read ≡ old.source.read ++ stream
-  pub asks : IsPrefix says.messages (asked stream).messages
+  pub asks : BeginsAs says.messages (asked stream).messages
   pub all_asked : is_of_reader finish.why ≡ true → says.messages ≡ (asked stream).messages
   pub reader : SuitsReader finish.why (asked stream).damaged old.source new.source
   pub input : KeepsInput old.source.read old.source.remaining new.source.read new.source.remaining
   pub frames : List (List ℕ)
-  pub sends : IsPrefix frames says.sent
+  pub sends : BeginsAs frames says.sent
   pub all_sent : is_of_reader finish.why ≡ true → frames ≡ says.sent
   pub written : WritesOf finish.is_whole (joined frames) old.sink.written new.sink.written
   pub writer : SuitsWriter finish.is_whole old.sink new.sink

@@ -5,7 +5,7 @@ ghost use Rattle.ov_lanes.specs.Courses.{Course};
 ghost use Rattle.ov_lanes.specs.Lanes.{AreOver, FitsLane};
 ghost use Rattle.ov_lanes.specs.Pairs.{Threewise};
 ghost use Rattle.ov_lanes.specs.declared.link.Link.{Link as SpecLink};
-ghost use Rattle.ov_workers.specs.Handing.{kept};
+ghost use Rattle.ov_workers.specs.Handing.{kept_if};
 ghost use Rattle.ov_desk.specs.Ending.{CourseEnds};
 ghost use Rattle.ov_desk.specs.Ends.{EndsLane, EndsSeat};
 ghost use Rattle.ov_desk.specs.LinkStates.{ends_of};
@@ -66,8 +66,8 @@ where
         → CourseEnds c result.cause (ends_of S.Source W.Sink k.reader k.writer)
         (ends_of S.Source W.Sink result.last_reader.value result.last_writer.value) }
     ensures keep { (keeps : Bool) → AreWorkersOf keeps lane workers
-        → (result.reader ≡ kept keeps result.last_reader.value)
-        × (result.writer ≡ kept keeps result.last_writer.value) }
+        → (result.reader ≡ kept_if keeps result.last_reader.value)
+        × (result.writer ≡ kept_if keeps result.last_writer.value) }
 {
     let (read, wrote) = workers.join(rt);
     let mut inlet = read.inlet;

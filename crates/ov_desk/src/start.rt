@@ -1,6 +1,6 @@
 ghost use Rattle.std.specs.Prelude.{◌≡◌, ◌≢◌, ◌<◌, ◌≤◌, ◌+◌, ◌^◌, ℕ, true, vec_len, IfOk, IfErr};
 ghost use Rattle.std.specs.VecDeque.{deque_len};
-ghost use Rattle.ov_desk.specs.Seats.{AreStarted, AwaitLink, IsStarted};
+ghost use Rattle.ov_desk.specs.Seats.{AreStarted, IsStarted};
 ghost use Rattle.ov_lanes.specs.declared.fault.ServeFault.TheVariants as fault;
 
 use crate::parts::Parts;
@@ -61,7 +61,7 @@ where
     }
 }
 
-/// Says that no worker may begin, so that those that wait look for what they are handed, and ends these.
+/// Tells the waiting workers that none may begin, and ends them.
 pub(crate) fn dismiss_all<R, L, G, S, W>(
     common: Common<'_, R, L, G>,
     started: VecDeque<Started<S, W, L>>,

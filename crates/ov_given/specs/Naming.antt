@@ -29,5 +29,5 @@ abbrev pub place_at : BTreeMap (Bor (List ℕ)) ℕ → List ℕ → Option ℕ
 place_at places name = get_by (λ known. slice_cmp nat_cmp name known.now) places
 
 -- for each name, the place of the first operation that declares it
-abbrev pub ArePlaces : BTreeMap (Bor (List ℕ)) ℕ → Items → Type 0
-ArePlaces places operations = (name : List ℕ) → place_at places name ≡ place_declared name operations
+abbrev pub AreNamePlaces : BTreeMap (Bor (List ℕ)) ℕ → Items → Type 0
+AreNamePlaces places operations = (name : List ℕ) → place_at places name ≡ place_declared name operations

@@ -11,7 +11,7 @@ ghost use Rattle.ov_specs.specs.operations.NamedUuids.{declares, place_declared}
 ghost use Rattle.ov_specs.specs.operations.NamedUuids.{is_declared_before, inserts_before, id_at};
 ghost use Rattle.ov_specs.specs.operations.OpOutcome.{OpContext};
 ghost use Rattle.ov_specs.specs.schema.Schema.{is_some_and};
-ghost use Rattle.ov_given.specs.Naming.{ArePlaces, first_of, place_at};
+ghost use Rattle.ov_given.specs.Naming.{AreNamePlaces, first_of, place_at};
 ghost use Rattle.ov_projection.specs.Errors.{error_view};
 
 use ov_atoms::{Names, is_id, read_uuid};
@@ -43,7 +43,7 @@ impl<'a> Model for NamedRows<'a> {
     ghost use Rattle.std.specs.List.{slice_get};
     ghost use Rattle.ov_specs.specs.operations.NamedUuids.{inserts_before};
     ghost use Rattle.ov_given.specs.Naming as naming;
-    ghost use Rattle.ov_given.specs.Naming.{naming_code, ArePlaces};
+    ghost use Rattle.ov_given.specs.Naming.{naming_code, AreNamePlaces};
 
     ghost Value = { naming.Naming };
 
@@ -51,7 +51,7 @@ impl<'a> Model for NamedRows<'a> {
 
     ghost view = { λ n. record { ids = n.ids.items; operations = n.operations.now } };
 
-    ghost invariant = { λ n. ArePlaces n.places n.operations.now
+    ghost invariant = { λ n. AreNamePlaces n.places n.operations.now
         × ((place : ℕ) → unwrap_or (slice_get n.counts.items place) n.inserts
         ≡ inserts_before place n.operations.now) };
 }
@@ -229,7 +229,7 @@ fn places_of<'a>(
     alloc: Global,
     operations: &'a [Value],
 ) -> Result<BTreeMap<&'a str, usize>, AllocError>
-    ensures { IfOk result (λ places. ArePlaces places (items_view operations.now)) }
+    ensures { IfOk result (λ places. AreNamePlaces places (items_view operations.now)) }
 {
     let mut places = BTreeMap::new(alloc);
     for place in 0..operations.len() {

@@ -5,7 +5,7 @@ use Rattle.std.specs.FinMap.Entries.{by_order}
 use Rattle.std.specs.Ordering.{eq_by_cmp}
 use Rattle.std.specs.Prelude.{not}
 use Rattle.std.specs.Str.{bytes_eq}
-use Rattle.ov_db.specs.Changing.{Delta, applied, with_change, with_changes}
+use Rattle.ov_db.specs.Changing.{Delta, applied, with_row_change, with_row_changes}
 use Rattle.ov_specs.specs.integrity.Limits.{rows_of}
 use Rattle.ov_specs.specs.rows.Database.{Row, Database}
 use Rattle.ov_specs.specs.rows.Lines.{LineKey, line_cmp}
@@ -52,16 +52,16 @@ module _ (name : List ℕ) where
       at true fewer = fewer_after (is_of r) r (filter is_of (filter test rows)) (filter is_of rows) fewer
       at false fewer = passed (is_of r) r (count (filter test rows)) (filter is_of rows) fewer
 
-  row-count : (key : LineKey) (change : Option Row) (rows : Database) → length (rows_of name (with_change key change rows)) ≤ 1 + length (rows_of name rows)
+  row-count : (key : LineKey) (change : Option Row) (rows : Database) → length (rows_of name (with_row_change key change rows)) ≤ 1 + length (rows_of name rows)
   row-count key (Some row) rows = subst (λ es. count es ≤ 1 + count (entries rows)) (sym (entries-insert key_total rows key row)) (put-count key row (entries rows))
   row-count key None rows =
       let kept = kept-count (λ r. not (eq_by_cmp line_cmp key r.0)) (entries rows) in
       subst (λ es. count es ≤ 1 + count (entries rows)) (sym (entries-remove rows key)) (omega (arith, kept))
 
-  rows-count : (changes : List (LineKey × Option Row)) (rows : Database) → length (rows_of name (with_changes changes rows)) ≤ length (rows_of name rows) + length changes
+  rows-count : (changes : List (LineKey × Option Row)) (rows : Database) → length (rows_of name (with_row_changes changes rows)) ≤ length (rows_of name rows) + length changes
   rows-count [] rows = omega arith
   rows-count (change ∷ changes) rows =
-      let rest = rows-count changes (with_change change.0 change.1 rows) in
+      let rest = rows-count changes (with_row_change change.0 change.1 rows) in
       let first = row-count change.0 change.1 rows in
       omega (arith, rest, first)
 

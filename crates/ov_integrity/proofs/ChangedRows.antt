@@ -14,12 +14,12 @@ use Rattle.ov_db.proofs.Places.{find-rest, sorted-rest, or_before, get-applied}
 use Rattle.ov_refs.specs.Holding.{KeySet, Holders, is_holder, with_holder}
 use Rattle.ov_refs.specs.Linking.{Links, is_strong_in, with_target, with_targets}
 use Rattle.ov_refs.proofs.Collecting.{strong-targets}
-use Rattle.ov_integrity.specs.Changes.{Changes, AreChanges, with_strong, with_strong_ones, with_key, with_change}
+use Rattle.ov_integrity.specs.Changes.{Changes, AreChanges, with_strong, with_strong_ones, with_key, with_changed_row}
 
 -- with each of these changes
 abbrev pub with_changes : Schema → List (LineKey × Option Row) → Changes → Changes
 with_changes schema [] changes = changes
-with_changes schema (e ∷ es) changes = with_changes schema es (with_change schema e changes)
+with_changes schema (e ∷ es) changes = with_changes schema es (with_changed_row schema e changes)
 
 -- ---- truth
 
@@ -67,7 +67,7 @@ keys-strong_ones : (from : LineKey) (targets : List Target) (changes : Changes) 
 keys-strong_ones from [] changes = refl
 keys-strong_ones from (target ∷ targets) changes = keys-strong_ones from targets (with_strong from target changes) ∙ keys-strong from target changes
 
-keys-change : (schema : Schema) (e : LineKey × Option Row) (changes : Changes) → (with_change schema e changes).keys ≡ insert changes.keys e.0 tt
+keys-change : (schema : Schema) (e : LineKey × Option Row) (changes : Changes) → (with_changed_row schema e changes).keys ≡ insert changes.keys e.0 tt
 keys-change schema (key, None) changes = refl
 keys-change schema (key, Some row) changes = keys-strong_ones key (row_targets schema (key, row)) (with_key key changes)
 
@@ -80,7 +80,7 @@ contains-changes : (schema : Schema) (es : List (LineKey × Option Row)) (change
 contains-changes schema [] changes q = or_false (contains_key changes.keys q)
 contains-changes schema (e ∷ es) changes q =
     let later = list_any (λ (x : LineKey × Option Row). same_key q x.0 && true) es in
-    contains-changes schema es (with_change schema e changes) q
+    contains-changes schema es (with_changed_row schema e changes) q
     ∙ ap (λ b. b || later) (ap (λ (set : KeySet). contains_key set q) (keys-change schema e changes) ∙ contains-insert changes.keys e.0 q ∙ ap (λ b. contains_key changes.keys q || b) (and_true (same_key q e.0)))
     ∙ or_three (contains_key changes.keys q) (same_key q e.0 && true) later
 
@@ -105,7 +105,7 @@ module _ (schema : Schema) (to from : LineKey) where
   puts_strong e = is_some_and (λ row. refers_strongly schema (e.0, row) to) e.1
 
   strong-change : (e : LineKey × Option Row) (changes : Changes)
-      → is_holder (with_change schema e changes).strong to from ≡ (is_holder changes.strong to from || (same_key from e.0 && puts_strong e))
+      → is_holder (with_changed_row schema e changes).strong to from ≡ (is_holder changes.strong to from || (same_key from e.0 && puts_strong e))
   strong-change (key, None) changes = nothing_more (is_holder changes.strong to from) (same_key from key)
   strong-change (key, Some row) changes =
       let links : Links = record { strong = changes.strong; weak = changes.strong } in
@@ -117,7 +117,7 @@ module _ (schema : Schema) (to from : LineKey) where
   strong-changes [] changes = or_false (is_holder changes.strong to from)
   strong-changes (e ∷ es) changes =
       let later = list_any (λ (x : LineKey × Option Row). same_key from x.0 && puts_strong x) es in
-      strong-changes es (with_change schema e changes) ∙ ap (λ b. b || later) (strong-change e changes)
+      strong-changes es (with_changed_row schema e changes) ∙ ap (λ b. b || later) (strong-change e changes)
       ∙ or_three (is_holder changes.strong to from) (same_key from e.0 && puts_strong e) later
 
 -- ---- the change of a key

@@ -39,6 +39,6 @@ abbrev pub with_key : LineKey → Changes → Changes
 with_key key changes = record changes { keys = insert changes.keys key tt }
 
 -- with a change
-abbrev pub with_change : Schema → LineKey × Option Row → Changes → Changes
-with_change schema (key, None) changes = with_key key changes
-with_change schema (key, Some row) changes = with_strong_ones key (row_targets schema (key, row)) (with_key key changes)
+abbrev pub with_changed_row : Schema → LineKey × Option Row → Changes → Changes
+with_changed_row schema (key, None) changes = with_key key changes
+with_changed_row schema (key, Some row) changes = with_strong_ones key (row_targets schema (key, row)) (with_key key changes)

@@ -1,5 +1,5 @@
 ghost use Rattle.std.specs.Prelude.{◌≡◌, IfOk, OnOk};
-ghost use Rattle.ov_integrity.specs.Changes.{AreChanges, with_change, with_strong};
+ghost use Rattle.ov_integrity.specs.Changes.{AreChanges, with_changed_row, with_strong};
 
 use ov_refs::{Holders, KeySet, Target, targets_of};
 use ov_rows::{Row, RowKey};
@@ -61,7 +61,8 @@ impl Changes {
         key: &RowKey,
         change: &Option<Row>,
     ) -> Result<(), AllocError>
-        ensures { OnOk result (self.new ≡ with_change schema.now (key.now, change.now) self.old) }
+        ensures { OnOk result
+            (self.new ≡ with_changed_row schema.now (key.now, change.now) self.old) }
     {
         self.keys
             .insert(alloc, RowKey::new(alloc, key.table(), key.id())?)?;

@@ -4,7 +4,7 @@ use Rattle.std.specs.Prelude.{not, is_some, unwrap_or}
 use Rattle.std.specs.Option.{option_or}
 use Rattle.std.proofs.lemmas.Bool.{false≢true}
 use Rattle.std.proofs.lemmas.List.{length-append, length-map, map-append}
-use mathlib.Core.List.{IsPrefix}
+use Rattle.ov_specs.specs.wire.Beginning.{BeginsAs}
 use Rattle.ov_specs.specs.wire.Message.{Message}
 use Rattle.ov_specs.specs.machine.Machine as machine
 use Rattle.ov_order.specs.declared.items.Brought.{Brought}
@@ -17,7 +17,7 @@ use Rattle.ov_history.specs.declared.event.Cause.{Cause}
 use Rattle.ov_history.specs.declared.event.Cause.TheVariants.{Memory}
 use Rattle.ov_history.specs.Entries.{cause_view}
 use Rattle.ov_lanes.specs.Courses.{Course, Spares}
-use Rattle.ov_lanes.specs.Fitting.{Items, brought, end_cause, is_by_reader, Took, framed, Puts, Knows, most_frames, FitsCourse, IsFlushed}
+use Rattle.ov_lanes.specs.Fitting.{Items, brought, end_cause, is_by_reader, Took, framed, PutsFrames, Knows, most_frames, FitsCourse, IsFlushed}
 use Rattle.ov_lanes.proofs.Own.{OwnHanded, OwnClosed, OwnTook}
 
 -- ---- whether a session is open, and why it was closed
@@ -90,7 +90,7 @@ took_after (Some x) asks items item some t = took_dropped x asks items item t
 
 -- ---- what was put
 
-puts_spared : (c d : Course) (marked : Bool) (put : List Sent) → Spares c d → is_some c.closed ≡ not c.is_open → d.is_open ≡ c.is_open → d.closed ≡ c.closed → Puts c marked put → Puts d marked put
+puts_spared : (c d : Course) (marked : Bool) (put : List Sent) → Spares c d → is_some c.closed ≡ not c.is_open → d.is_open ≡ c.is_open → d.closed ≡ c.closed → PutsFrames c marked put → PutsFrames d marked put
 puts_spared c d false put s opens same_open same_closed p = (
   p.0 ∙ ap framed (sym s.handed),
   λ by.
@@ -100,10 +100,10 @@ puts_spared c d false put s opens same_open same_closed p = (
 puts_spared c d true put s opens same_open same_closed p = (
   same_open ∙ p.0,
   s.waiting ∙ (ap (λ (l : List (List ℕ)). c.waiting ++ l) (s.silent p.0) ∙ (append-nil c.waiting ∙ p.1)),
-  (p.2.0, p.2.1, subst (λ (l : List (List ℕ)). IsPrefix p.2.0 l) (sym s.handed) p.2.2, λ by. p.2.3 (sym (ap is_by_reader same_closed) ∙ by) ∙ sym s.handed),
+  (p.2.0, p.2.1, subst (λ (l : List (List ℕ)). BeginsAs p.2.0 l) (sym s.handed) p.2.2, λ by. p.2.3 (sym (ap is_by_reader same_closed) ∙ by) ∙ sym s.handed),
 )
 
-puts_shut : (c d : Course) (marked : Bool) (put : List Sent) → Spares c d → c.is_open ≡ true → is_by_reader d.closed ≡ false → Puts c marked put → Puts d marked put
+puts_shut : (c d : Course) (marked : Bool) (put : List Sent) → Spares c d → c.is_open ≡ true → is_by_reader d.closed ≡ false → PutsFrames c marked put → PutsFrames d marked put
 puts_shut c d false put s was not_by p = (p.0 ∙ ap framed (sym s.handed), λ by. absurd (false≢true (sym not_by ∙ by)))
 puts_shut c d true put s was not_by p = absurd (false≢true (sym p.0 ∙ was))
 
@@ -261,7 +261,7 @@ module _ (c d e g : Course) (known known' : Option Cause) (items : Items) (put p
 -- ---- what is taken of a ring
 
 -- what was put does not depend on what was asked
-puts_besides : (c : Course) (asks : List Message) (marked : Bool) (put : List Sent) → Puts (record c { asks = asks }) marked put → Puts c marked put
+puts_besides : (c : Course) (asks : List Message) (marked : Bool) (put : List Sent) → PutsFrames (record c { asks = asks }) marked put → PutsFrames c marked put
 puts_besides c asks false put p = p
 puts_besides c asks true put p = p
 
@@ -331,7 +331,7 @@ same_cause : (x y : machine.Cause) → Some x ≡ Some y → x ≡ y
 same_cause x y h = cc
 
 module _ (c d : Course) (cause : ReadCause) (known known' : Option Cause) (before : Items) (put : List Sent) (marked ended : Bool) (o : OwnClosed c d (end_cause cause) known known') (f : FitsCourse c known before put marked ended) where
-  puts_ended : (m : Bool) → IsFlushed c m → c.is_open ≡ true → Puts c m put → Puts d m put
+  puts_ended : (m : Bool) → IsFlushed c m → c.is_open ≡ true → PutsFrames c m put → PutsFrames d m put
   puts_ended false flushed was p = (p.0 ∙ ap framed (sym o.handed), λ by. elim flushed [ inl is ↦ absurd (false≢true is) | inr (there, none) ↦ o.waiting ∙ none ])
   puts_ended true flushed was p = absurd (false≢true (sym p.0 ∙ was))
 

@@ -6,7 +6,7 @@ use Rattle.std.proofs.lemmas.Bool.{cases_eq, eq-eqb, ne_eqb, false≢true}
 use Rattle.ov_specs.specs.wire.Message.{Message}
 use Rattle.ov_specs.specs.values.Uuid.{Uuid}
 use Rattle.ov_specs.specs.machine.Machine as machine
-use Rattle.ov_specs.specs.machine.Machine.{State, Entry, is_open}
+use Rattle.ov_specs.specs.machine.Machine.{Entry, is_open}
 use Rattle.ov_specs.specs.machine.History.{requests, closed_by, frames_to}
 use Rattle.ov_specs.proofs.laws.Histories.{option_or_none}
 use Rattle.ov_specs.proofs.laws.Turns.{Turn, turn_open, session_after}

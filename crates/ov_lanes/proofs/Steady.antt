@@ -4,7 +4,7 @@ use Rattle.std.specs.Prelude.{IfOk, IfErr, max}
 use Rattle.ov_specs.specs.wire.Message.{Message}
 use Rattle.ov_specs.specs.values.Uuid.{Uuid}
 use Rattle.ov_specs.specs.machine.Machine as machine
-use Rattle.ov_specs.specs.machine.Machine.{State, Entry, Stepped, step, Take, Tick}
+use Rattle.ov_specs.specs.machine.Machine.{State, Entry, Stepped, Take, Tick}
 use Rattle.ov_specs.proofs.laws.Turns.{MayClose, turn_close, turn_take, turn_tick}
 use Rattle.ov_order.specs.declared.items.Sent.{Sent}
 use Rattle.ov_order.specs.declared.items.Brought.{Brought}

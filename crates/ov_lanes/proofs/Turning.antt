@@ -11,7 +11,7 @@ use Rattle.ov_specs.specs.wire.Message.{Message}
 use Rattle.ov_order.specs.declared.items.Brought.{Brought}
 use Rattle.ov_workers.specs.declared.cause.ReadCause.{ReadCause}
 use Rattle.ov_core.specs.Following.{CoreState}
-use Rattle.ov_lanes.specs.Lanes.{SameLane, LooksAt, PutsAlone, IsAt, StaysAs, StayAs, IsFlushedLane, AreFlushedBelow, IsQuiet, GivesUpIf, unmarked, unmarked_at, TakesPlace, TakesAt, TakesOne, LookAll}
+use Rattle.ov_lanes.specs.Lanes.{SameLane, LooksAt, PutsAlone, IsAt, StaysAs, StayAs, IsFlushedLane, AreFlushedBelow, IsQuiet, GivesUpIf, unmarked, unmarked_at, TakesAtPlace, TakesAt, TakesOne, LookAll}
 use Rattle.ov_lanes.specs.declared.lane.Lane.{Lane}
 use Rattle.ov_lanes.proofs.PlaceLaws.{none_some, at_below}
 
@@ -103,12 +103,12 @@ look_set = stay_set LooksAt looks_self
 -- ---- an item that was taken
 
 -- what is known of a place whose lane took an item
-placed : (place place' : Option Lane) → TakesPlace place place' → (l m : Lane) × (place ≡ Some l) × (place' ≡ Some m) × TakesPlace (Some l) (Some m)
+placed : (place place' : Option Lane) → TakesAtPlace place place' → (l m : Lane) × (place ≡ Some l) × (place' ≡ Some m) × TakesAtPlace (Some l) (Some m)
 placed None place' t = absurd t
 placed (Some l) None t = absurd t
 placed (Some l) (Some m) t = (l, m, refl, refl, t)
 
-pub takes_set : (ls : List (Option Lane)) (i : ℕ) (place place' : Option Lane) → i < length ls → place ≡ get_or ls i place → TakesPlace place place' → TakesAt i ls (slice_set ls i place')
+pub takes_set : (ls : List (Option Lane)) (i : ℕ) (place place' : Option Lane) → i < length ls → place ≡ get_or ls i place → TakesAtPlace place place' → TakesAt i ls (slice_set ls i place')
 takes_set ls i place place' lt read t =
     let x = placed place place' t in
     record {
@@ -123,8 +123,8 @@ takes_set ls i place place' lt read t =
           (stays_self (λ l m. received m.inbound ≡ received l.inbound) (λ l. refl) (get_or ls at None));
     }
 
-pub some_taken : (place : Option Lane) (l m : Lane) → place ≡ Some l → TakesPlace (Some l) (Some m) → TakesPlace place (Some m)
-some_taken place l m is t = subst (λ (p : Option Lane). TakesPlace p (Some m)) (sym is) t
+pub some_taken : (place : Option Lane) (l m : Lane) → place ≡ Some l → TakesAtPlace (Some l) (Some m) → TakesAtPlace place (Some m)
+some_taken place l m is t = subst (λ (p : Option Lane). TakesAtPlace p (Some m)) (sym is) t
 
 -- and then more was put
 some_at : (q r : Option Lane) (m : Lane) → q ≡ Some m → StaysAs PutsAlone q r → (n : Lane) × (r ≡ Some n) × PutsAlone m n
@@ -150,12 +150,12 @@ takes_then_puts i ls ms ns t x =
 -- whether an item was taken of a place
 pub place_taken : {K D : Type 0} (b : Bool) (old new : CoreState K D) (place : Option Lane) (l m : Lane) → place ≡ Some l
     → MatchBool b ((item : Brought Message ReadCause) × (received m.inbound ≡ received l.inbound ++ item ∷ [])) ((new ≡ old) × LooksAt l m)
-    → MatchBool b (TakesPlace place (Some m)) ((new ≡ old) × StaysAs LooksAt place (Some m))
-place_taken true old new place l m is t = subst (λ (p : Option Lane). TakesPlace p (Some m)) (sym is) t
+    → MatchBool b (TakesAtPlace place (Some m)) ((new ≡ old) × StaysAs LooksAt place (Some m))
+place_taken true old new place l m is t = subst (λ (p : Option Lane). TakesAtPlace p (Some m)) (sym is) t
 place_taken false old new place l m is (same, looks) = (same, some_stays LooksAt place l m is looks)
 
 pub taken_at : {K D : Type 0} (ls : List (Option Lane)) (i : ℕ) (place place' : Option Lane) → i < length ls → place ≡ get_or ls i place → (b : Bool) (old new : CoreState K D)
-    → MatchBool b (TakesPlace place place') ((new ≡ old) × StaysAs LooksAt place place')
+    → MatchBool b (TakesAtPlace place place') ((new ≡ old) × StaysAs LooksAt place place')
     → MatchBool b (TakesAt i ls (slice_set ls i place')) ((new ≡ old) × LookAll ls (slice_set ls i place'))
 taken_at ls i place place' lt read true old new t = takes_set ls i place place' lt read t
 taken_at ls i place place' lt read false old new (same, looks) = (same, look_set ls i place place' lt read looks)

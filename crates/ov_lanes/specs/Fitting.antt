@@ -1,6 +1,6 @@
 -- How the rings of a session fit what became of it.
 use Rattle.std.specs.Prelude.{◌≡◌, ◌≢◌, ◌⊎◌, ℕ, ◌+◌, ◌<◌, List, [], ◌∷◌, ◌++◌, length, map, Bool, true, false, not, Option, Some, None, is_some}
-use mathlib.Core.List.{IsPrefix}
+use Rattle.ov_specs.specs.wire.Beginning.{BeginsAs}
 use Rattle.ov_specs.specs.wire.Message.{Message}
 use Rattle.ov_specs.specs.machine.Machine as machine
 use Rattle.ov_order.specs.declared.items.Brought.{Brought}
@@ -62,11 +62,11 @@ framed frames = map (λ bytes. Frame bytes) frames
 
 -- What was put into a ring: the frames that were handed out. After the end mark nothing follows and nothing waits, and if
 -- the reader closed the session no frame was dropped.
-abbrev pub Puts : Course → Bool → List Sent → Type 0
-Puts c false put = (put ≡ framed c.handed) × (is_by_reader c.closed ≡ true → c.waiting ≡ [])
-Puts c true put =
+abbrev pub PutsFrames : Course → Bool → List Sent → Type 0
+PutsFrames c false put = (put ≡ framed c.handed) × (is_by_reader c.closed ≡ true → c.waiting ≡ [])
+PutsFrames c true put =
     (c.is_open ≡ false) × (c.waiting ≡ [])
-    × ((frames : List (List ℕ)) × (put ≡ framed frames ++ End ∷ []) × IsPrefix frames c.handed × (is_by_reader c.closed ≡ true → frames ≡ c.handed))
+    × ((frames : List (List ℕ)) × (put ≡ framed frames ++ End ∷ []) × BeginsAs frames c.handed × (is_by_reader c.closed ≡ true → frames ≡ c.handed))
 
 -- ---- a lane
 
@@ -82,7 +82,7 @@ most_frames = 1024
 -- what a lane has taken and put fits the course of its session
 pub record FitsCourse (c : Course) (cause : Option Cause) (items : Items) (put : List Sent) (marked ended : Bool) : Type 0 where
   pub took : Took c.closed c.asks items
-  pub puts : Puts c marked put
+  pub puts : PutsFrames c marked put
   pub knows : Knows c.closed cause
   pub ends : ended ≡ true → c.is_open ≡ false
   pub opens : is_some c.closed ≡ not c.is_open

@@ -182,10 +182,10 @@ abbrev pub AreFlushedBelow : {K D : Type 0} → ℕ → CoreState K D → List (
 AreFlushedBelow n core places = (at : ℕ) (l : Lane) → at < n → IsAt places at l → IsFlushedLane core l
 
 -- an item of the ring at a place was taken
-abbrev pub TakesPlace : Option Lane → Option Lane → Type 0
-TakesPlace None p = ⊥
-TakesPlace (Some l) None = ⊥
-TakesPlace (Some l) (Some m) = (item : Brought Message ReadCause) × (received m.inbound ≡ received l.inbound ++ item ∷ [])
+abbrev pub TakesAtPlace : Option Lane → Option Lane → Type 0
+TakesAtPlace None p = ⊥
+TakesAtPlace (Some l) None = ⊥
+TakesAtPlace (Some l) (Some m) = (item : Brought Message ReadCause) × (received m.inbound ≡ received l.inbound ++ item ∷ [])
 
 -- nothing was taken from the lane, and what is put goes into the same ring
 abbrev pub PutsAlone : Lane → Lane → Type 0

@@ -35,7 +35,7 @@ pub fn free_place(lanes: &Vec<Option<Lane>>) -> Option<usize>
     None
 }
 
-/// Whether of each session that is served the reader's end was taken, and the end mark was put after its last frame.
+/// Whether, for every served session, the reader's end was taken and the end mark was put after its last frame.
 pub fn are_over(lanes: &Vec<Option<Lane>>) -> bool
     ensures { MatchBool result (AreOver lanes.now.items) (AreOver lanes.now.items → ⊥) }
 {

@@ -26,7 +26,7 @@ abbrev pub offer_of : {D : Type 0} → Service D → Offer D
 offer_of service = record { schema = service.schema; draws = service.draws; place = service.place }
 
 module _ {K D C : Type 0} (e : Environment K D C) where
-  -- A core was opened over a new keeper, and its sessions came to that; or none was opened, and nothing is read or written.
+  -- A core was opened over a new keeper and served its sessions; or none was opened, and nothing is read or written.
   abbrev pub EndsMemory : Service D → PipesState C → Result (Ended K D) (RefusedOpen K) → PipesState C → Type 0
   EndsMemory service from (Ok ended) to = (keeper : K) × IsNewKeeper e.keeper service.text keeper × ServesPlace e keeper (offer_of service) from ended to
   EndsMemory service from (Err refused) to = (keeper : K) × IsNewKeeper e.keeper service.text keeper × RefusesPlace e keeper (offer_of service) refused × (to ≡ from)

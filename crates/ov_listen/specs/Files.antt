@@ -1,5 +1,5 @@
 -- What comes of the database in a file.
-use Rattle.std.specs.Prelude.{◌≡◌, ◌⊎◌, ℕ, List, Option, Some, None, Result, Ok, Err, true, false, IfOk, MatchBool, MatchResult, IsSomeAnd}
+use Rattle.std.specs.Prelude.{◌≡◌, ◌⊎◌, ℕ, List, Option, None, Result, Ok, Err, IfOk, MatchBool, MatchResult, IsSomeAnd}
 use Rattle.sqlite.specs.Files.{file_state, over_files}
 use Rattle.sqlite.specs.State.{HasCleanDisk}
 use Rattle.sqlite_disk.specs.declared.Disk as disk

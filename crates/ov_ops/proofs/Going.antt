@@ -8,10 +8,10 @@ use Rattle.ov_specs.specs.rows.Database.{Database}
 use Rattle.ov_projection.specs.declared.fault.OpFault.{OpFault}
 use Rattle.ov_projection.specs.declared.fault.OpFault.TheVariants.{Refused, Memory}
 use Rattle.ov_projection.specs.Errors.{IsOpResult}
-use Rattle.ov_ops.specs.Outcomes.{IsDone, IsOperationRefused, GoesOn}
+use Rattle.ov_ops.specs.Outcomes.{IsDone, IsOperationRefused, GoesOnAs}
 
 -- with what was read of a member, or its error
-pub goes_on : {A B : Type 0} (given : Result B OpError) (seen : A → B) (next : B → spec.OpOutcome) (r : Result A OpFault) → IsOpResult seen given r → GoesOn (ok_or_fault given next) (λ a. next (seen a)) r
+pub goes_on : {A B : Type 0} (given : Result B OpError) (seen : A → B) (next : B → spec.OpOutcome) (r : Result A OpFault) → IsOpResult seen given r → GoesOnAs (ok_or_fault given next) (λ a. next (seen a)) r
 goes_on given seen next (Ok a) h = rw h refl
 goes_on given seen next (Err (Refused error)) h = rw h refl
 goes_on given seen next (Err Memory) h = tt

@@ -42,9 +42,9 @@ IsOperationRefused outcome (Refused error) = outcome ≡ spec.Fault (error_view 
 IsOperationRefused outcome Memory = Unit {0}
 
 -- an operation goes on with what was read of its members, or has the error of reading them
-abbrev pub GoesOn : {A : Type 0} → spec.OpOutcome → (A → spec.OpOutcome) → Result A OpFault → Type 0
-GoesOn outcome next (Ok a) = outcome ≡ next a
-GoesOn outcome next (Err fault) = IsOperationRefused outcome fault
+abbrev pub GoesOnAs : {A : Type 0} → spec.OpOutcome → (A → spec.OpOutcome) → Result A OpFault → Type 0
+GoesOnAs outcome next (Ok a) = outcome ≡ next a
+GoesOnAs outcome next (Err fault) = IsOperationRefused outcome fault
 
 -- the result of an operation, as its outcome
 abbrev pub outcome_of_result : Result Data OpFault → OpOutcome

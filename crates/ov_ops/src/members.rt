@@ -5,7 +5,7 @@ ghost use Rattle.ov_specs.specs.operations.MatchingRows.{on_conditions};
 ghost use Rattle.ov_specs.specs.operations.OpOutcome as spec;
 ghost use Rattle.ov_specs.specs.rows.Database.{Database};
 ghost use Rattle.ov_specs.specs.schema.SchemaTypes.{Table as table};
-ghost use Rattle.ov_ops.specs.Outcomes.{context_of, GoesOn};
+ghost use Rattle.ov_ops.specs.Outcomes.{context_of, GoesOnAs};
 
 use crate::context::OpCtx;
 use crate::owns::Owns;
@@ -22,7 +22,7 @@ pub(crate) fn table_at<'a, O: Owns>(
     operation: &'a Value,
 ) -> Result<(&'a str, &'a Table), OpFault>
     ensures { (before : Database) (next : List ℕ → table → spec.OpOutcome)
-        → GoesOn (spec.on_table (context_of O.owned ctx.now before) (view operation.now) next)
+        → GoesOnAs (spec.on_table (context_of O.owned ctx.now before) (view operation.now) next)
         (λ t. next t.0.now t.1.now) result }
 {
     let Some(name) = text_at(operation, "table") else {
@@ -42,7 +42,7 @@ pub(crate) fn conditions_at<O: Owns>(
     operation: &Value,
 ) -> Result<Vec<Condition>, OpFault>
     ensures { (before : Database) (next : List condition → spec.OpOutcome)
-        → GoesOn
+        → GoesOnAs
         (on_conditions (context_of O.owned ctx.now before) table.now (view operation.now) next)
         (λ v. next v.items) result }
 {

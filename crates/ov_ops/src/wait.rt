@@ -5,7 +5,7 @@ ghost use Rattle.ov_specs.specs.operations.Select.{projection};
 ghost use Rattle.ov_specs.specs.operations.OpOutcome.{OpContext};
 ghost use Rattle.ov_specs.specs.operations.Wait as spec;
 ghost use Rattle.ov_specs.specs.rows.Database.{Database};
-ghost use Rattle.ov_ops.specs.Outcomes.{context_of, GoesOn, IsOutcome};
+ghost use Rattle.ov_ops.specs.Outcomes.{context_of, GoesOnAs, IsOutcome};
 ghost use Rattle.ov_given.specs.Waiting.{until_view};
 
 use crate::context::OpCtx;
@@ -41,7 +41,7 @@ impl<'a> Waited<'a> {
         operation: &'a Value,
     ) -> Result<Waited<'a>, OpFault>
         ensures { (before rows : Database)
-            → GoesOn
+            → GoesOnAs
             (spec.wait_outcome (context_of O.owned ctx.now before) rows (view operation.now))
             (λ w. spec.waits (context_of O.owned ctx.now before) w.timeout
             (spec.is_met (until_view w.until)

@@ -23,7 +23,7 @@ place_of None sessions = Pipes
 place_of (Some address) sessions = Address address sessions
 
 -- the schema is the built-in one if no file is named, the text is the schema's, and the place is this one
-pub record IsAsked {D : Type 0} (file : Option (List ℕ)) (at : Place) (service : Service D) : Type 0 where
+pub record IsServiceAsked {D : Type 0} (file : Option (List ℕ)) (at : Place) (service : Service D) : Type 0 where
   pub schema : IfNone file (IsBuiltIn service.schema)
   pub text : service.text ≡ compact_text service.schema.tree
   pub place : service.place ≡ at
@@ -40,6 +40,6 @@ pub record RunsDatabase {A D C : Type 0} {g : disk.Ghosts A} (memory : Environme
   pub settings : Settings
   pub given : settings_of start.words ≡ Some settings
   pub service : Service D
-  pub asked : IsAsked settings.schema (place_of settings.listen settings.sessions) service
+  pub asked : IsServiceAsked settings.schema (place_of settings.listen settings.sessions) service
   pub ends : MatchOption settings.db (IsInMemory ended (λ e. EndsMemory memory service start.pipes e to))
       (λ _. IsInFile ended (λ e. EndsFile files start.image service start.pipes e to))

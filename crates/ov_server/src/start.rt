@@ -5,7 +5,7 @@ ghost use Rattle.sqlite_wal.specs.Files.{image_at};
 ghost use Rattle.ov_words.specs.Words.{settings_of};
 ghost use Rattle.ov_pipes.specs.Pipes.{state_of};
 ghost use Rattle.ov_listen.specs.Environment.{environment_of};
-ghost use Rattle.ov_server.specs.Running.{IsAsked, RunsDatabase, place_of};
+ghost use Rattle.ov_server.specs.Running.{IsServiceAsked, RunsDatabase, place_of};
 ghost use Rattle.ov_server.specs.Schemas.{IsBuiltIn};
 
 use crate::database::built_in_schema;
@@ -86,7 +86,7 @@ fn service_of<R: RandomSource, F: Files>(
     schema: Option<Text>,
     place: Place,
 ) -> Result<Service<RandomDraws<StdRng>>, Ending>
-    ensures asked { IfOk result (λ service. IsAsked schema place service) }
+    ensures asked { IfOk result (λ service. IsServiceAsked schema place service) }
     ensures kinds { IfErr result (λ ending. (ending ≡ Ending.Memory)
         ⊎ ((ending ≡ Ending.Schema) ⊎ (ending ≡ Ending.Database))) }
 {

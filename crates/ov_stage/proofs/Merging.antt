@@ -12,7 +12,7 @@ use Rattle.std.specs.Str.{bytes_eq}
 use Rattle.ov_specs.specs.values.Uuid.{Uuid}
 use Rattle.ov_specs.proofs.laws.LineKeys.{key_exact, key_total}
 use Rattle.ov_specs.proofs.laws.Names.{name_cmp_total, name_exact}
-use Rattle.ov_db.specs.Changing.{Delta, applied, with_change, with_changes}
+use Rattle.ov_db.specs.Changing.{Delta, applied, with_row_change, with_row_changes}
 use Rattle.ov_db.specs.DeltaModel.{delta_of}
 use Rattle.ov_rows.specs.Nested.{id_cmp}
 use Rattle.ov_rows.specs.Resident.{database_of}
@@ -44,15 +44,15 @@ entries-remove db k =
     get-remove key_total db k q ∙ ap (λ b. cond b None (get db q)) ((eq_by_cmp_equiv key_total).symm q k) ∙ sym (get-part db (λ x. not (eq_by_cmp line_cmp k x)) q ∙ cond-not (eq_by_cmp line_cmp k q) (get db q) None)))
     ∙ entries-from_sorted line_cmp _ (part_sorted db (λ x. not (eq_by_cmp line_cmp k x)))
 
-entries-with_change : (k : LineKey) (o : Option Row) (db : Database) → entries (with_change k o db) ≡ place line_cmp k o (entries db)
+entries-with_change : (k : LineKey) (o : Option Row) (db : Database) → entries (with_row_change k o db) ≡ place line_cmp k o (entries db)
 entries-with_change k (Some row) db = entries-insert key_total db k row
 entries-with_change k None db = entries-remove db k
 
-entries-with_changes : (cs : Changes) (db : Database) → entries (with_changes cs db) ≡ placed line_cmp cs (entries db)
+entries-with_changes : (cs : Changes) (db : Database) → entries (with_row_changes cs db) ≡ placed line_cmp cs (entries db)
 entries-with_changes [] db = refl
-entries-with_changes (c ∷ cs) db = entries-with_changes cs (with_change c.0 c.1 db) ∙ ap (placed line_cmp cs) (entries-with_change c.0 c.1 db)
+entries-with_changes (c ∷ cs) db = entries-with_changes cs (with_row_change c.0 c.1 db) ∙ ap (placed line_cmp cs) (entries-with_change c.0 c.1 db)
 
-pub placed_is : (cs : Changes) (es : Entries) → T (is_sorted line_cmp es) → placed line_cmp cs es ≡ entries (with_changes cs (database_of es))
+pub placed_is : (cs : Changes) (es : Entries) → T (is_sorted line_cmp es) → placed line_cmp cs es ≡ entries (with_row_changes cs (database_of es))
 placed_is cs es h = sym (entries-with_changes cs (database_of es) ∙ ap (placed line_cmp cs) (entries-from_sorted line_cmp es h))
 
 abbrev pub Rows : Type 0
@@ -217,9 +217,9 @@ module _ (table : List ℕ) (delta : Delta) where
   its_changes_sorted = part_sorted delta of_it
 
   -- what is at a key after the table's changes
-  pub get-after : (rows : Database) (q : LineKey) → get (with_changes its_changes rows) q ≡ or_before (cond (of_it q) (get delta q) None) (get rows q)
+  pub get-after : (rows : Database) (q : LineKey) → get (with_row_changes its_changes rows) q ≡ or_before (cond (of_it q) (get delta q) None) (get rows q)
   get-after rows q =
-      ap (λ (cs : Changes). get (with_changes cs rows) q) (sym (entries-from_sorted line_cmp its_changes its_changes_sorted))
+      ap (λ (cs : Changes). get (with_row_changes cs rows) q) (sym (entries-from_sorted line_cmp its_changes its_changes_sorted))
       ∙ get-applied (delta_of its_changes) rows q ∙ ap (λ o. or_before o (get rows q)) (get-part delta of_it q)
 
   module _ (db : Database) where
@@ -230,9 +230,9 @@ module _ (table : List ℕ) (delta : Delta) where
     its_rows_sorted = part_sorted db of_it
 
     -- the table's rows after its changes are its rows after all changes
-    pub of_table_after : entries (with_changes its_changes (database_of its_rows)) ≡ filter (λ r. bytes_eq r.0.0 table) (entries (applied delta db))
+    pub of_table_after : entries (with_row_changes its_changes (database_of its_rows)) ≡ filter (λ r. bytes_eq r.0.0 table) (entries (applied delta db))
     of_table_after =
-        ap (λ (d : Database). entries d) (same_map key_total key_exact (with_changes its_changes (database_of its_rows)) (database_of (where_key line_cmp of_it (entries (applied delta db)))) (λ q.
+        ap (λ (d : Database). entries d) (same_map key_total key_exact (with_row_changes its_changes (database_of its_rows)) (database_of (where_key line_cmp of_it (entries (applied delta db)))) (λ q.
         get-after (database_of its_rows) q ∙ ap (or_before (cond (of_it q) (get delta q) None)) (get-part db of_it q)
         ∙ in_part (of_it q) (get delta q) (get db q) ∙ ap (λ o. cond (of_it q) o None) (sym (get-applied delta db q))
         ∙ sym (get-part (applied delta db) of_it q)))
@@ -242,7 +242,7 @@ module _ (table : List ℕ) (delta : Delta) where
 pub after-none : (table : List ℕ) (delta : Delta) (es : Entries) → len delta ≡ 0 → T (is_sorted line_cmp es) → es ≡ rows_after delta table es
 after-none table delta es none h =
     sym (entries-from_sorted line_cmp es h)
-    ∙ ap (λ (cs : Changes). entries (with_changes (filter (λ c. bytes_eq c.0.0 table) cs) (database_of es))) (sym (nil_from_length (entries delta) (sym (len-entries delta) ∙ none)))
+    ∙ ap (λ (cs : Changes). entries (with_row_changes (filter (λ c. bytes_eq c.0.0 table) cs) (database_of es))) (sym (nil_from_length (entries delta) (sym (len-entries delta) ∙ none)))
 
 -- ---- rows of one table by their identifiers, and by their keys
 
@@ -290,7 +290,7 @@ module _ (table : List ℕ) where
   placed_keyed (c ∷ cs) es = ap (placed line_cmp (keyed cs)) (place_keyed c.0 c.1 es) ∙ placed_keyed cs (place id_cmp c.0 c.1 es)
 
   -- changes made by identifiers are those made by keys
-  pub merged_is : (cs : Made) (es : Rows) → T (is_sorted line_cmp (keyed es)) → keyed (placed id_cmp cs es) ≡ entries (with_changes (keyed cs) (database_of (keyed es)))
+  pub merged_is : (cs : Made) (es : Rows) → T (is_sorted line_cmp (keyed es)) → keyed (placed id_cmp cs es) ≡ entries (with_row_changes (keyed cs) (database_of (keyed es)))
   merged_is cs es h = sym (placed_keyed cs es) ∙ placed_is (keyed cs) (keyed es) h
 
   pub keyed-map : {A X : Type 0} (f : A → Uuid × X) (xs : List A) → keyed (map f xs) ≡ map (λ x. ((table, (f x).0), (f x).1)) xs

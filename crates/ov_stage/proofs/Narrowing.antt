@@ -17,7 +17,7 @@ use Rattle.ov_specs.proofs.laws.LineKeys.{key_exact, key_total, tied_same}
 use Rattle.ov_specs.proofs.laws.Names.{name_exact}
 use Rattle.ov_specs.proofs.laws.Truths.{both_hold, left_holds, right_holds, equal_is, not_tied}
 use Rattle.ov_db.proofs.Same.{text-same}
-use Rattle.ov_db.specs.Changing.{Delta, applied, with_changes}
+use Rattle.ov_db.specs.Changing.{Delta, applied, with_row_changes}
 use Rattle.ov_db.proofs.Places.{get-applied, or_before}
 use Rattle.ov_index.specs.Indexing.{marked}
 use Rattle.ov_rows.specs.Lending.{lent_row_of}
@@ -195,7 +195,7 @@ module _ (delta : Delta) (db : Database) (table : List ℕ) (conditions : List C
   passing-after id (Some new) = refl
   passing-after id None = passing-before id
 
-  passing-here : (id : Uuid) → passing P (table, id) (get (with_changes (changes_of delta table) after) (table, id)) ≡ passing P (table, id) (get (applied delta db) (table, id))
+  passing-here : (id : Uuid) → passing P (table, id) (get (with_row_changes (changes_of delta table) after) (table, id)) ≡ passing P (table, id) (get (applied delta db) (table, id))
   passing-here id =
       ap (passing P (table, id))
       (get-after table delta after (table, id) ∙ ap (λ b. or_before (cond b (get delta (table, id)) None) (get after (table, id))) (text-same table))
@@ -203,9 +203,9 @@ module _ (delta : Delta) (db : Database) (table : List ℕ) (conditions : List C
 
   -- rows of the table that meet all conditions after changes are found among these and the changes
   pub narrowed : filter P (rows_after delta table (rows_of_ids db table ids)) ≡ matching (applied delta db) table conditions
-  narrowed = same-filter P (with_changes (changes_of delta table) after) (applied delta db) (λ q. by q (bytes_eq q.0 table) refl)
+  narrowed = same-filter P (with_row_changes (changes_of delta table) after) (applied delta db) (λ q. by q (bytes_eq q.0 table) refl)
     where
-      by : (q : LineKey) (b : Bool) → bytes_eq q.0 table ≡ b → passing P q (get (with_changes (changes_of delta table) after) q) ≡ passing P q (get (applied delta db) q)
+      by : (q : LineKey) (b : Bool) → bytes_eq q.0 table ≡ b → passing P q (get (with_row_changes (changes_of delta table) after) q) ≡ passing P q (get (applied delta db) q)
       by q false apart = passing-apart q _ apart ∙ sym (passing-apart q _ apart)
       by q true here =
-          subst (λ (k : LineKey). passing P k (get (with_changes (changes_of delta table) after) k) ≡ passing P k (get (applied delta db) k)) (λ i. (sym (same_text q.0 table (sym here)) i, q.1)) (passing-here q.1)
+          subst (λ (k : LineKey). passing P k (get (with_row_changes (changes_of delta table) after) k) ≡ passing P k (get (applied delta db) k)) (λ i. (sym (same_text q.0 table (sym here)) i, q.1)) (passing-here q.1)

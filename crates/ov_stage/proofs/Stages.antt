@@ -10,7 +10,7 @@ use Rattle.ov_specs.specs.rows.Version.{row_now, version_over}
 use Rattle.ov_specs.specs.values.Uuid.{Uuid}
 use Rattle.ov_specs.proofs.laws.LineKeys.{key_exact, key_total, tied_same}
 use Rattle.ov_specs.proofs.laws.Sameness.{columns-same, row_now-former}
-use Rattle.ov_db.specs.Changing.{Delta, applied, with_change}
+use Rattle.ov_db.specs.Changing.{Delta, applied, with_row_change}
 use Rattle.ov_db.proofs.Added.{same}
 use Rattle.ov_db.proofs.Places.{at_one, get-applied, or_before}
 use Rattle.ov_db.proofs.Same.{database-same}
@@ -45,7 +45,7 @@ put_over : (b : Bool) (new : Option Row) (change : Option (Option Row)) (old : O
 put_over true new change old = refl
 put_over false new change old = refl
 
-pub applied-insert : (delta : Delta) (db : Database) (key : LineKey) (new : Option Row) → applied (insert delta key new) db ≡ with_change key new (applied delta db)
+pub applied-insert : (delta : Delta) (db : Database) (key : LineKey) (new : Option Row) → applied (insert delta key new) db ≡ with_row_change key new (applied delta db)
 applied-insert delta db key new = same_map key_total key_exact _ _ (λ q.
     get-applied (insert delta key new) db q ∙ ap (λ o. or_before o (get db q)) (get-insert key_total delta key new q)
     ∙ put_over (same q key) new (get delta q) (get db q)
@@ -56,7 +56,7 @@ taken_back true change old = refl
 taken_back false change old = refl
 
 -- if a change is taken back, its key is as before again
-pub applied-remove : (delta : Delta) (db : Database) (key : LineKey) (old : Option Row) → get db key ≡ old → applied (remove delta key) db ≡ with_change key old (applied delta db)
+pub applied-remove : (delta : Delta) (db : Database) (key : LineKey) (old : Option Row) → get db key ≡ old → applied (remove delta key) db ≡ with_row_change key old (applied delta db)
 applied-remove delta db key old is = same_map key_total key_exact _ _ (λ q.
     get-applied (remove delta key) db q ∙ ap (λ o. or_before o (get db q)) (get-remove key_total delta key q)
     ∙ taken_back (same q key) (get delta q) (get db q)

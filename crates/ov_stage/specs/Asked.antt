@@ -4,7 +4,7 @@ use Rattle.std.specs.FinMap.{get, entries, is_sorted}
 use Rattle.std.specs.List.{filter, flat_map, list_any}
 use Rattle.std.specs.Ordering.{eq_by_cmp}
 use Rattle.std.specs.Str.{bytes_eq}
-use Rattle.ov_db.specs.Changing.{Delta, with_changes}
+use Rattle.ov_db.specs.Changing.{Delta, with_row_changes}
 use Rattle.ov_index.specs.Changing.{are_any_alike}
 use Rattle.ov_index.specs.IndexKeys.{IndexKey, key_at, same_index_key, values_in}
 use Rattle.ov_index.specs.Indexing.{AreIndexesOf, marked}
@@ -69,4 +69,4 @@ changes_of delta table = filter (λ c. bytes_eq c.0.0 table) (entries delta)
 
 -- rows of the table of this name after its changes
 abbrev pub rows_after : Delta → List ℕ → List (LineKey × Row) → List (LineKey × Row)
-rows_after delta table rows = entries (with_changes (changes_of delta table) (database_of rows))
+rows_after delta table rows = entries (with_row_changes (changes_of delta table) (database_of rows))

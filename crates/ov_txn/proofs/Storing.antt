@@ -5,7 +5,7 @@ use Rattle.serde_json.specs.Data.{Items}
 use Rattle.ov_db.specs.Changing.{Delta, applied}
 use Rattle.ov_specs.specs.operations.Transaction.{TransactionOutcome, Completes}
 use Rattle.ov_specs.specs.rows.Database.{Database, same_database}
-use Rattle.ov_txn.specs.Attempting.{Readies, AttemptState, IsTried, IsAsked}
+use Rattle.ov_txn.specs.Attempting.{Readies, AttemptState, IsTried, IsTriedInStore}
 use Rattle.ov_txn.specs.declared.tried.Tried.{Tried}
 use Rattle.ov_txn.specs.declared.tried.Tried.TheVariants.{Answer, Stored, Blocked, NoMemory}
 
@@ -16,7 +16,7 @@ not_sealed (Some d) h = cc
 
 module _ {K R : Type 0} (readies : Readies R K) (outcome : TransactionOutcome) (old : AttemptState K R) (results : Items) (delta : Delta) (new : AttemptState K R)
     (completes : outcome ≡ Completes results (applied delta old.database.committed)) (changes : same_database old.database.committed (applied delta old.database.committed) ≡ false) (unsealed : old.database.sealed ≡ None) where
-  pub stores : (tried : Tried) → IsAsked readies results delta old tried new → IsTried readies outcome old tried new
+  pub stores : (tried : Tried) → IsTriedInStore readies results delta old tried new → IsTried readies outcome old tried new
   stores (Answer others) never = absurd never
   stores (Blocked timeout) never = absurd never
   stores (Stored answer) (made, commits) = (record { results = results; delta = delta; completes = completes; changes = changes; unsealed = unsealed; made = made }, commits)

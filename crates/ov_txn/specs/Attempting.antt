@@ -19,11 +19,11 @@ Readies R K = R → KeptDatabase K → Delta → Replies → Bool → R → Type
 
 -- The results if the store is not asked. If the transaction leaves the database as it was, they are its own; if it would
 -- change a sealed database, the error of a failed commit follows them (RFC 7047, 4.1.3).
-abbrev pub IsAnswer : {K : Type 0} → TransactionOutcome → KeptDatabase K → Items → Type 0
-IsAnswer (Completes made database) old results =
+abbrev pub IsUnstoredAnswer : {K : Type 0} → TransactionOutcome → KeptDatabase K → Items → Type 0
+IsUnstoredAnswer (Completes made database) old results =
     ((same_database old.committed database ≡ true) × (results ≡ made))
     ⊎ ((same_database old.committed database ≡ false) × (is_some old.sealed ≡ true) × (results ≡ failed_results made))
-IsAnswer (Waits timeout) old results = ⊥
+IsUnstoredAnswer (Waits timeout) old results = ⊥
 
 -- what an attempt may change: the database, and what makes ready
 pub record AttemptState (K R : Type 0) : Type 0 where
@@ -43,17 +43,17 @@ pub record MadeReady {K R : Type 0} (readies : Readies R K) (outcome : Transacti
 -- The result of an attempt. If the transaction changes a database that is not sealed, all is made ready, and the database is
 -- as a commit of its changes leaves it; otherwise nothing is changed. If an allocation fails, the database is as before.
 abbrev pub IsTried : {K R : Type 0} → Readies R K → TransactionOutcome → AttemptState K R → Tried → AttemptState K R → Type 0
-IsTried readies outcome old (Answer results) new = (new.database ≡ old.database) × (new.ready ≡ old.ready) × IsAnswer outcome old.database results
+IsTried readies outcome old (Answer results) new = (new.database ≡ old.database) × (new.ready ≡ old.ready) × IsUnstoredAnswer outcome old.database results
 IsTried readies outcome old (Stored answer) new = (r : MadeReady readies outcome old true new.ready) × Commits r.delta old.database answer new.database
 IsTried readies outcome old (Blocked timeout) new = (new.database ≡ old.database) × (new.ready ≡ old.ready) × (outcome ≡ Waits timeout)
 IsTried readies outcome old NoMemory new = (new.database ≡ old.database) × ((new.ready ≡ old.ready) ⊎ MadeReady readies outcome old false new.ready)
 
 -- the same for a transaction with these results and changes, for which the store is to be asked
-abbrev pub IsAsked : {K R : Type 0} → Readies R K → Items → Delta → AttemptState K R → Tried → AttemptState K R → Type 0
-IsAsked readies results delta old (Stored answer) new = readies old.ready old.database delta (replies_with results) true new.ready × Commits delta old.database answer new.database
-IsAsked readies results delta old NoMemory new = (new.database ≡ old.database) × ((new.ready ≡ old.ready) ⊎ readies old.ready old.database delta (replies_with results) false new.ready)
-IsAsked readies results delta old (Answer others) new = ⊥
-IsAsked readies results delta old (Blocked timeout) new = ⊥
+abbrev pub IsTriedInStore : {K R : Type 0} → Readies R K → Items → Delta → AttemptState K R → Tried → AttemptState K R → Type 0
+IsTriedInStore readies results delta old (Stored answer) new = readies old.ready old.database delta (replies_with results) true new.ready × Commits delta old.database answer new.database
+IsTriedInStore readies results delta old NoMemory new = (new.database ≡ old.database) × ((new.ready ≡ old.ready) ⊎ readies old.ready old.database delta (replies_with results) false new.ready)
+IsTriedInStore readies results delta old (Answer others) new = ⊥
+IsTriedInStore readies results delta old (Blocked timeout) new = ⊥
 
 -- the answer of a sealed database, unless an allocation fails
 abbrev pub IsSealedAnswer : Items → Tried → Type 0

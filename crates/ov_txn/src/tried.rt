@@ -2,7 +2,7 @@ ghost use Rattle.std.specs.Prelude.{◌≡◌, ◌≤◌, ◌+◌, true, None, I
 ghost use Rattle.ov_specs.specs.integrity.Committed.{is_whole};
 ghost use Rattle.ov_specs.specs.operations.Transaction.{failed_results, transaction};
 ghost use Rattle.ov_db.specs.Changing.{SuitsChanges, applied};
-ghost use Rattle.ov_txn.specs.Attempting.{IsTried, IsAsked, IsSealedAnswer, HasCause};
+ghost use Rattle.ov_txn.specs.Attempting.{IsTried, IsTriedInStore, IsSealedAnswer, HasCause};
 
 use crate::perform::{Performed, perform};
 use crate::ready::{Ready, Replies};
@@ -101,7 +101,7 @@ fn store<K: Keeper + Drop, R: Ready<K>>(
     requires unsealed { db.old.sealed ≡ None }
     requires suits { SuitsChanges db.old.schema delta }
     requires whole { is_whole db.old.schema (applied delta db.old.committed) ≡ true }
-    ensures asked { IsAsked R.readies results delta
+    ensures asked { IsTriedInStore R.readies results delta
         (record { database = db.old; ready = ready.old }) result
         (record { database = db.new; ready = ready.new }) }
     ensures cause { HasCause K.failed result db.old db.new }

@@ -6,7 +6,7 @@ use Rattle.rtrb.specs.declared.AnyItems.{AnyItems}
 use Rattle.rtrb.specs.declared.consumer.Consumer.{Consumer}
 use Rattle.ov_ends.specs.States.{SourceState, SinkState}
 use Rattle.ov_order.specs.declared.items.Sent.{Sent}
-use Rattle.ov_workers.specs.Reading.{Brings}
+use Rattle.ov_workers.specs.Reading.{BringsItems}
 use Rattle.ov_workers.specs.Writing.{Writes}
 use Rattle.ov_workers.specs.Inlet.{SameInlet}
 use Rattle.ov_workers.specs.declared.inlet.Inlet.{Inlet}
@@ -14,13 +14,13 @@ use Rattle.ov_workers.specs.declared.reading.ReadLeft.{ReadLeft}
 use Rattle.ov_workers.specs.declared.writing.WriteLeft.{WriteLeft}
 
 -- an end of a link after the work: it is there if it is kept, and was dropped otherwise
-abbrev pub kept : {T : Type 0} → Bool → T → Option T
-kept true x = Some x
-kept false x = None
+abbrev pub kept_if : {T : Type 0} → Bool → T → Option T
+kept_if true x = Some x
+kept_if false x = None
 
 -- This is what is left after the reader was read to its end, by this inlet; the reader is there only if it is kept.
 abbrev pub ReadsLink : {S L : Type 0} → (S → SourceState) → Bool → Inlet L → S → ReadLeft S L → Type 0
-ReadsLink source keeps inlet reader left = SameInlet inlet left.inlet × Brings left.cause (source reader) (source left.last.value) (sent left.inlet.ring) × (left.reader ≡ kept keeps left.last.value)
+ReadsLink source keeps inlet reader left = SameInlet inlet left.inlet × BringsItems left.cause (source reader) (source left.last.value) (sent left.inlet.ring) × (left.reader ≡ kept_if keeps left.last.value)
 
 -- The thread was handed nothing, and read nothing; or it was handed a reader, and read it to its end.
 abbrev pub ReadsHanded : {S L : Type 0} → (S → SourceState) → Bool → Inlet L → List (Option S) → Option (ReadLeft S L) → Type 0
@@ -29,7 +29,7 @@ ReadsHanded {S} source keeps inlet handed done = MatchOption done (handed ≡ No
 -- This is what is left after the frames of the ring were written to the writer, up to the end mark; the writer is there only
 -- if it is kept.
 abbrev pub WritesLink : {W : Type 0} → (W → SinkState) → Bool → Consumer Sent Global AnyItems → W → WriteLeft W → Type 0
-WritesLink sink keeps ring writer left = SameConsumer ring left.ring × Writes (not left.failed) (sink writer) (sink left.last.value) (received left.ring) × (left.writer ≡ kept keeps left.last.value)
+WritesLink sink keeps ring writer left = SameConsumer ring left.ring × Writes (not left.failed) (sink writer) (sink left.last.value) (received left.ring) × (left.writer ≡ kept_if keeps left.last.value)
 
 -- The thread was handed nothing, and wrote nothing; or it was handed a writer, and wrote to it up to the end mark.
 abbrev pub WritesHanded : {W : Type 0} → (W → SinkState) → Bool → Consumer Sent Global AnyItems → List (Option W) → Option (WriteLeft W) → Type 0

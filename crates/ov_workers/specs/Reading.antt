@@ -24,7 +24,7 @@ SuitsSource Damaged old new = new.faults ≡ old.faults
 SuitsSource Memory old new = new.faults ≡ old.faults
 
 -- The items brought are the messages that the bytes read since asked for, and the end mark with the cause.
-pub record Brings (cause : ReadCause) (old new : SourceState) (items : List Item) : Type 0 where
+pub record BringsItems (cause : ReadCause) (old new : SourceState) (items : List Item) : Type 0 where
   pub stream : List ℕ
   pub read : new.read ≡ old.read ++ stream
   pub messages : List wire.Message

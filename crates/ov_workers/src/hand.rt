@@ -1,6 +1,6 @@
 ghost use Rattle.std.specs.Prelude.{◌≡◌, [], ◌∷◌, ◌++◌};
 ghost use Rattle.rtrb.specs.Ring.{sent, known_free, received, IsPair, SameConsumer};
-ghost use Rattle.ov_workers.specs.Handing.{kept};
+ghost use Rattle.ov_workers.specs.Handing.{kept_if};
 
 use rtrb::{Consumer, Producer, RingBuffer};
 use std::alloc::{AllocError, Global};
@@ -66,7 +66,7 @@ pub fn take_handed<R: Wait, T: Drop>(rt: &R, hand: &mut Consumer<Option<T>>) -> 
 
 /// The end of a link if it is kept; otherwise it is dropped, which closes it.
 pub(crate) fn keep_or_drop<T: Drop>(keeps: bool, end: T) -> Option<T>
-    ensures { result ≡ kept keeps end }
+    ensures { result ≡ kept_if keeps end }
 {
     if keeps { Some(end) } else { None }
 }

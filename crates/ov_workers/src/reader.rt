@@ -1,7 +1,7 @@
 ghost use Rattle.std.specs.Prelude.{◌≡◌, []};
 ghost use Rattle.rtrb.specs.Ring.{sent};
 ghost use Rattle.ov_ends.specs.States.{source_of};
-ghost use Rattle.ov_workers.specs.Reading.{Brings};
+ghost use Rattle.ov_workers.specs.Reading.{BringsItems};
 ghost use Rattle.ov_workers.specs.Bringing.{ReadsToEnd};
 ghost use Rattle.ov_workers.specs.Inlet.{SameInlet};
 
@@ -42,7 +42,7 @@ pub fn read_worker<R: Wait, L: Ledger, G: Gate, S: Source>(
 ) -> ReadEnd<S, L>
     requires fresh { sent inlet.ring ≡ [] }
     ensures inlet { SameInlet inlet result.inlet }
-    ensures brought { Brings result.cause (source_of S.Source reader)
+    ensures brought { BringsItems result.cause (source_of S.Source reader)
         (source_of S.Source result.reader) (sent result.inlet.ring) }
 {
     let mut reader = reader;

@@ -32,8 +32,8 @@ pub struct Workers<S: Source, W: Sink, L: Ledger> {
 /// closes. As its last act the writer's thread calls `bell.say_over()`, also if it was dismissed: renew the bell before it is
 /// used again.
 ///
-/// The threads sleep until `begin` was called, with either answer. Soon after that they have to be handed a link or be
-/// dismissed: until then they look for it again and again.
+/// The threads sleep until `begin` was called, with either answer. Hand them a link, or dismiss them, soon after that: until
+/// then they poll.
 pub fn start_workers<'s, E, R, L, G, S, W>(
     common: Common<'s, R, L, G>,
     scope: &Scope<'s, E>,
@@ -73,7 +73,7 @@ where
     }
 }
 
-/// Says that no worker may begin, if nothing was said of that yet.
+/// Tells the workers that none may begin, unless `begin` was called before.
 fn say_no_begin<R: Wait, L: Ledger, G>(common: Common<'_, R, L, G>) {
     {
         let mut book = common.order.lock(common.rt);

@@ -25,7 +25,8 @@ fn finished<K: Keeper + Drop>(
     requires suits { Suits db.now.schema stage.now }
     requires version { is_uuid version ≡ true }
     ensures suits { IfOk result (SuitsChanges db.now.schema) }
-    ensures whole { IfOk result (λ delta. is_whole db.now.schema (applied delta db.now.committed) ≡ true) }
+    ensures whole { IfOk result
+        (λ delta. is_whole db.now.schema (applied delta db.now.committed) ≡ true) }
 {
     db.shows_kept();
     db.schema().accepted();

@@ -44,7 +44,9 @@ fn prepare(
     session: u64,
     text: &str,
 ) -> Result<(), Fail>
-    ensures { (other base : ℕ) → places_for other queues.old ≡ base + count_of other prepared.old → places_for other queues.new ≡ base + count_of other prepared.new }
+    ensures { (other base : ℕ)
+        → places_for other queues.old ≡ base + count_of other prepared.old
+        → places_for other queues.new ≡ base + count_of other prepared.new }
 {
     let frame = frame_of(alloc, text)?;
     if prepared.prepare(alloc, queues, session, frame) {

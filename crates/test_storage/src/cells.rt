@@ -6,7 +6,7 @@ use std::alloc::Global;
 use std::test::Fail;
 use test_basics::{NET, Scripted, agrees, cell, cell_line_of, keeper_of, text_of_cell_line};
 
-/// What opens a row of these cells in format 2, of which one differs.
+/// Opens a row of format 2 in which one cell differs.
 ///
 /// A command is a column and the body of its cell, which takes the place of the cell of that column or is one more; or a column
 /// alone, which then has no cell. The answer is `kept` if the row opens with exactly these cells, or else why it does not open.

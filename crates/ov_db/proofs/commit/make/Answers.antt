@@ -3,7 +3,7 @@ use Rattle.std.specs.FinMap.{find, get, contains_key, entries, is_sorted, get-fr
 use Rattle.ov_specs.specs.rows.Database.{Database, Row}
 use Rattle.ov_specs.specs.rows.Lines.{LineKey, line_cmp}
 use Rattle.ov_specs.proofs.laws.LineKeys.{same_tied}
-use Rattle.ov_db.specs.Changing.{Delta, with_changes}
+use Rattle.ov_db.specs.Changing.{Delta, with_row_changes}
 use Rattle.ov_db.proofs.Places.{Changes, apart, sorted-rest, found-first, found-later, no-place, row-stays}
 use Rattle.ov_db.proofs.commit.make.Goals as goal
 
@@ -34,10 +34,10 @@ loop-key-preserved c =
       placed = λ q r found.
           ap (λ (rows : Database). contains_key rows q) c.make_one.ensures ∙ row-stays c.in-Some.key c.in-Some.row c.loop-key.rows q (apart entry later q (Some r) ascends found)
           ∙ c.loop-key.invariant.placed q r (ap (find line_cmp q) steps ∙ found-later entry later q (Some r) ascends found);
-      made = ap (with_changes later) c.make_one.ensures ∙ sym (ap (λ es. with_changes es c.loop-key.rows) steps) ∙ c.loop-key.invariant.made;
+      made = ap (with_row_changes later) c.make_one.ensures ∙ sym (ap (λ es. with_row_changes es c.loop-key.rows) steps) ∙ c.loop-key.invariant.made;
     }
 
 pub returns : goal.returns
 returns c =
     let given = c.into_iter-key-iterator.ensures.into_iter_gives.0 in
-    sym (ap (λ es. with_changes es c.loop-key.rows) c.in-None.ensures.steps.0) ∙ c.loop-key.invariant.made ∙ ap (λ es. with_changes es c.args.rows.now) (given ∙ sym (entries-from_sorted line_cmp c.delta.inside.changes.entries c.delta.invariant) ∙ ap (λ (delta : Delta). entries delta) c.delta.view_is)
+    sym (ap (λ es. with_row_changes es c.loop-key.rows) c.in-None.ensures.steps.0) ∙ c.loop-key.invariant.made ∙ ap (λ es. with_row_changes es c.args.rows.now) (given ∙ sym (entries-from_sorted line_cmp c.delta.inside.changes.entries c.delta.invariant) ∙ ap (λ (delta : Delta). entries delta) c.delta.view_is)

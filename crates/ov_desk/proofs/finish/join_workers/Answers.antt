@@ -1,7 +1,7 @@
 use Rattle.std.proofs.Common.{◌++◌, Bool, true, sym, ap, ◌∙◌, subst}
 use Rattle.rtrb.specs.Ring.{sent, received, known_items}
 use Rattle.ov_ends.specs.States.{source_of, sink_of}
-use Rattle.ov_workers.specs.Handing.{kept}
+use Rattle.ov_workers.specs.Handing.{kept_if}
 use Rattle.ov_lanes.specs.Fitting.{FitsCourse}
 use Rattle.ov_desk.proofs.Sides.{ends_for}
 use Rattle.ov_desk.proofs.Seats.{pair_outbound, pair_inbound}
@@ -36,4 +36,4 @@ pub returns-clause-keep : goal.returns-clause-keep
 returns-clause-keep g c keeps works =
     let left = c.join-read.result.0 in let wrote = c.join-read.result.1 in let k = c.requires.link in
     let r = c.join-read.ensures.reading k.0.reader k.1.0 in let v = c.join-read.ensures.writing k.0.writer k.1.1 in
-    (r.2 ∙ ap (λ (b : Bool). kept b left.last.value) works.keep.0, v.2 ∙ ap (λ (b : Bool). kept b wrote.last.value) works.keep.1)
+    (r.2 ∙ ap (λ (b : Bool). kept_if b left.last.value) works.keep.0, v.2 ∙ ap (λ (b : Bool). kept_if b wrote.last.value) works.keep.1)

@@ -1,7 +1,7 @@
-use Rattle.std.proofs.Common.{◌≡◌, ◌<◌, length, get_or, rules, refl, sym, ap, ◌∙◌, map, drop, ◌++◌, [], ◌∷◌}
+use Rattle.std.proofs.Common.{◌≡◌, ◌<◌, length, rules, refl, ◌∙◌, map, ◌++◌, [], ◌∷◌}
 use Rattle.std.specs.Prelude.{Ok}
 use Rattle.ov_specs.specs.operations.Mutate as spec
-use Rattle.ov_specs.proofs.laws.Results.{after_these, next_more}
+use Rattle.ov_specs.proofs.laws.Results.{next_more}
 use Rattle.ov_specs.specs.rows.Lines.{LineKey}
 use Rattle.ov_specs.specs.rows.Database.{Columns}
 use Rattle.ov_rows.specs.Lending.{lent_row_of}

@@ -1,7 +1,7 @@
 use Rattle.std.proofs.Common.{T, map, sym, ap, subst, ◌∙◌}
 use Rattle.std.proofs.lemmas.Result.{IfOk-weaker}
 use Rattle.std.specs.FinMap.{entries, is_sorted, len}
-use Rattle.ov_db.specs.Changing.{with_changes}
+use Rattle.ov_db.specs.Changing.{with_row_changes}
 use Rattle.ov_rows.specs.Lending.{lent_row, lent_row_of}
 use Rattle.ov_rows.specs.Resident.{database_of}
 use Rattle.ov_db.proofs.Places.{Changes}
@@ -40,5 +40,5 @@ returns c =
     let sorted : T (is_sorted line_cmp (keyed table (map lent_row rows))) = subst (λ (es : Entries). T (is_sorted line_cmp es)) (sym keyed_rows) c.requires in
     IfOk-weaker c.merged.result _ _ (λ merged h.
     sym (keyed-map table lent_row merged.items) ∙ ap (keyed table) h ∙ merged_is table (map (λ r. (r.0.now, r.1.now)) changes) (map lent_row rows) sorted
-    ∙ ap (λ (cs : Changes). entries (with_changes cs (database_of (keyed table (map lent_row rows))))) keyed_changes
-    ∙ ap (λ (es : Entries). entries (with_changes (changes_of c.args.delta.now table) (database_of es))) keyed_rows) c.merged.ensures
+    ∙ ap (λ (cs : Changes). entries (with_row_changes cs (database_of (keyed table (map lent_row rows))))) keyed_changes
+    ∙ ap (λ (es : Entries). entries (with_row_changes (changes_of c.args.delta.now table) (database_of es))) keyed_rows) c.merged.ensures

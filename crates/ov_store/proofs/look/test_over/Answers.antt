@@ -1,6 +1,5 @@
 use Rattle.std.proofs.Common.{◌≡◌, ◌≢◌, subst, IfErr}
 use Rattle.sqlite.specs.Schema.{Schema}
-use Rattle.ov_keeper.specs.declared.fault.KeepFault.{KeepFault}
 use Rattle.ov_keeper.specs.declared.fault.KeepFault.TheVariants.{NotOurs}
 use Rattle.ov_tables.specs.Tables.{no_schema, HasOurTables}
 use Rattle.ov_store.proofs.look.test_over.Goals as goal

@@ -1,6 +1,6 @@
-use Rattle.std.proofs.Common.{◌≡◌, true, Ok, sym, subst}
+use Rattle.std.proofs.Common.{◌≡◌, Ok, sym, subst}
 use Rattle.ov_db.specs.Changing.{applied}
-use Rattle.ov_specs.specs.integrity.Committed.{committed, is_whole}
+use Rattle.ov_specs.specs.integrity.Committed.{committed}
 use Rattle.ov_specs.specs.rows.Database.{Database}
 use Rattle.ov_specs.specs.rows.Suits.{Suits}
 use Rattle.ov_specs.specs.schema.Schema.{IsAccepted}

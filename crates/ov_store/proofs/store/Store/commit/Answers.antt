@@ -1,4 +1,4 @@
-use Rattle.std.proofs.Common.{◌≡◌, ◌≢◌, inl, inr, sym, ap, refl, subst, ◌∙◌, arith, IsTrue, List, ℕ}
+use Rattle.std.proofs.Common.{◌≡◌, ◌≢◌, inl, inr, sym, ap, refl, subst, ◌∙◌, arith, List, ℕ}
 use Rattle.sqlite.specs.State.{HasCleanDisk}
 use Rattle.sqlite.specs.Held.{state}
 use Rattle.ov_specs.specs.rows.Cells.{after_cell_changes}
