@@ -2,6 +2,7 @@ pub mod PutLemmas
 pub mod RunLemmas
 pub mod CellLemmas
 pub mod OpenLemmas
+pub mod EndingLemmas
 pub mod PairLemmas
 pub mod KeyLemmas
 pub mod ChangeLemmas

@@ -1,15 +1,17 @@
 -- The rows of the tables, as they are read.
-use Rattle.std.specs.Prelude.{◌≡◌, ◌≢◌, ℕ, ℤ, List, [], map, Bool, true, false, IsTrue, MatchBool, IsUtf8, length}
+use Rattle.std.specs.Prelude.{◌≡◌, ◌≢◌, ℕ, ℤ, List, [], map, Bool, true, false, IsTrue, MatchBool, IsUtf8, length, Result, Err, IfOk}
 use Rattle.std.specs.List.{AllByRecursion}
 use Rattle.std.specs.List.Sorted.{IsPermutation}
 use Rattle.sqlite.specs.declared.types.Value.{Value}
 use Rattle.sqlite.specs.declared.types.Value.TheVariants.{Int, Text, Blob}
 use Rattle.sqlite.specs.Order.{Row}
-use Rattle.sqlite.specs.State.{State}
+use Rattle.sqlite.specs.State.{State, HasCleanDisk, Survives}
 use Rattle.std.specs.FinMap.{from_entries}
 use Rattle.sqlite.specs.Effect.{Database}
 use Rattle.ov_specs.specs.rows.Cells.{have_heads, format_of}
 use Rattle.ov_keeper.specs.declared.cell_line.CellLine.{CellLine}
+use Rattle.ov_keeper.specs.declared.fault.KeepFault.{KeepFault}
+use Rattle.ov_keeper.specs.declared.fault.KeepFault.TheVariants.{Format}
 use Rattle.ov_keeper.specs.declared.keeper.Lines.{Lines}
 use Rattle.ov_keeper.specs.declared.keeper.Lines.TheVariants.{Whole, InCells}
 use Rattle.ov_keeper.specs.declared.keeper.Loaded.{Loaded}
@@ -18,7 +20,7 @@ use Rattle.ov_keeper.specs.Views.{line_entry, cell_line_entry, lines_view}
 use Rattle.ov_tables.specs.Tables.{HasLineTables, HasCellTables, HasOurTables}
 use Rattle.ov_tables.specs.Format.{IsLine, IsHead, IsCell, entry, head_of, cell_of, stored_lines, stored_cells, held, rows_of_line, rows_of_head, rows_of_cell}
 use Rattle.ov_tables.specs.Holding.{IsNumbered, IsStoredAs}
-use Rattle.ov_tables.specs.Querying.{head_selected}
+use Rattle.ov_tables.specs.Querying.{IsAsBefore, head_selected}
 use Rattle.ov_sqlite.specs.Joining.{AreNumbered, line_parts, head_parts}
 
 -- the value is no number
@@ -36,6 +38,26 @@ IsNoBlob v = (b : List ℕ) → v ≢ Blob b
 -- the value is no blob of sixteen bytes
 abbrev pub IsNoUuid : Value → Type 0
 IsNoUuid v = (b : List ℕ) → v ≡ Blob b → length b ≢ 16
+
+-- From old to new the tables were read, if what has to be there was. What is returned is what they held, and `Format` says that
+-- they were malformed. Nothing is changed or committed.
+pub record ReadsTables {A : Type 0} (result : Result A KeepFault) (May : State → Type 0)
+    (Holds : Database → A → Type 0) (IsMalformed : Database → Type 0) (old new : State)
+    : Type 0 where
+  pub ok : HasCleanDisk new → May old
+      → IfOk result (λ read. IsTrue old.is_open × Holds old.now read)
+  pub format : HasCleanDisk new → May old → result ≡ Err Format
+      → IsTrue old.is_open × IsMalformed old.now
+  pub same : HasCleanDisk new → IsAsBefore old new
+  pub survives : Survives old new (λ _. ⊥)
+
+-- a row of `line` is no line
+abbrev pub HasMalformedLine : Database → Type 0
+HasMalformedLine db = ¬ AllByRecursion IsLine (rows_of_line db.trees)
+
+-- a row of `head` is no head
+abbrev pub HasMalformedHead : Database → Type 0
+HasMalformedHead db = ¬ AllByRecursion IsHead (rows_of_head db.trees)
 
 -- the rows that were read are those of the table; each is of this kind, and no two have one number
 pub record ReadsRows {X : Type 0} (Is : Row → Type 0) (is : Row → X) (selected : Row → Row)
@@ -86,8 +108,7 @@ are_cells (InCells lines) = true
 abbrev pub MayHaveTables : State → Type 0
 MayHaveTables s = IsTrue s.is_open → HasOurTables s.now.schema
 
--- the connection is open, its tables are those of the format of these lines, and this is what they hold
-pub record IsHeldBy (s : State) (loaded : Loaded) : Type 0 where
-  pub is_open : IsTrue s.is_open
-  pub stored : IsStoredAs (format_of (lines_view loaded.lines)) loaded.schema s.now
-  pub holds : held s.now.trees ≡ loaded_contents loaded
+-- the tables are those of the format of these lines, and this is what they hold
+pub record IsHeldBy (db : Database) (loaded : Loaded) : Type 0 where
+  pub stored : IsStoredAs (format_of (lines_view loaded.lines)) loaded.schema db
+  pub holds : held db.trees ≡ loaded_contents loaded

@@ -1,16 +1,14 @@
 //! Whether the contents of the tables are of the stored format whose tables are there, and what they hold.
 
-ghost use Rattle.std.specs.Prelude.{◌≡◌, ◌≢◌, false, map, IfOk, IfSome, IsTrue, Err};
-ghost use Rattle.std.specs.List.{AllByRecursion};
-ghost use Rattle.sqlite.specs.State.{HasCleanDisk, Survives};
+ghost use Rattle.std.specs.Prelude.{◌≡◌, ◌≢◌, false, map, IfOk, IfSome, Err};
+ghost use Rattle.sqlite.specs.State.{HasCleanDisk};
 ghost use Rattle.sqlite.specs.Held.{state};
 ghost use Rattle.ov_keeper.specs.Views.{line_entry};
 ghost use Rattle.ov_tables.specs.Tables.{HasOurTables};
-ghost use Rattle.ov_tables.specs.Format.{IsFormat, IsCellFormat, IsLine, NamesOther, entry};
-ghost use Rattle.ov_tables.specs.Format.{rows_of_line};
-ghost use Rattle.ov_tables.specs.Querying.{IsAsBefore};
+ghost use Rattle.ov_tables.specs.Format.{IsFormat, IsCellFormat, NamesOther, entry};
+ghost use Rattle.ov_sqlite.specs.Reading.{ReadsTables, HasMalformedLine, IsHeldBy, are_cells};
 ghost use Rattle.ov_sqlite.specs.Reading.{MayReadCells, MayReadRows, ReadsCells, ReadsLines};
-ghost use Rattle.ov_sqlite.specs.Reading.{are_cells, IsHeldBy, MayHaveTables};
+ghost use Rattle.ov_sqlite.specs.Reading.{MayHaveTables};
 
 use crate::columns::line_columns_of;
 use crate::fault::fault_of;
@@ -30,16 +28,10 @@ fn read_joined<S: Alter>(
 ) -> Result<Vec<CellLine>, KeepFault>
     requires { conn.old.in_transaction ≡ false }
     ensures mode { conn.new.in_transaction ≡ false }
-    ensures ok { HasCleanDisk (state S.Store conn.new) → MayReadCells (state S.Store conn.old)
-        → IfOk result (λ lines. IsTrue (state S.Store conn.old).is_open
-        × ReadsCells (state S.Store conn.old).now lines.items) }
-    ensures format { HasCleanDisk (state S.Store conn.new) → MayReadCells (state S.Store conn.old)
-        → result ≡ Err KeepFault.Format → IsTrue (state S.Store conn.old).is_open
-        × ((text : _) → ¬ IsCellFormat text (state S.Store conn.old).now) }
+    ensures reads { ReadsTables result MayReadCells (λ db lines. ReadsCells db lines.items)
+        (λ db. (text : _) → ¬ IsCellFormat text db)
+        (state S.Store conn.old) (state S.Store conn.new) }
     ensures ours { result ≢ Err KeepFault.NotOurs }
-    ensures same { HasCleanDisk (state S.Store conn.new)
-        → IsAsBefore (state S.Store conn.old) (state S.Store conn.new) }
-    ensures survives { Survives (state S.Store conn.old) (state S.Store conn.new) (λ _. ⊥) }
 {
     // Its contract says that the rows obey the schema.
     let _schema = conn.schema();
@@ -81,17 +73,10 @@ fn lines_of(alloc: Global, rows: &[Row]) -> Result<Option<Vec<Line>>, AllocError
 fn read_whole<S: Alter>(alloc: Global, conn: &mut Connection<S>) -> Result<Vec<Line>, KeepFault>
     requires { conn.old.in_transaction ≡ false }
     ensures mode { conn.new.in_transaction ≡ false }
-    ensures ok { HasCleanDisk (state S.Store conn.new) → MayReadRows false (state S.Store conn.old)
-        → IfOk result (λ lines. IsTrue (state S.Store conn.old).is_open
-        × ReadsLines (state S.Store conn.old).now (Lines.Whole lines)) }
-    ensures format { HasCleanDisk (state S.Store conn.new)
-        → MayReadRows false (state S.Store conn.old)
-        → result ≡ Err KeepFault.Format → IsTrue (state S.Store conn.old).is_open
-        × (¬ AllByRecursion IsLine (rows_of_line (state S.Store conn.old).now.trees)) }
+    ensures reads { ReadsTables result (MayReadRows false)
+        (λ db lines. ReadsLines db (Lines.Whole lines)) HasMalformedLine
+        (state S.Store conn.old) (state S.Store conn.new) }
     ensures ours { result ≢ Err KeepFault.NotOurs }
-    ensures same { HasCleanDisk (state S.Store conn.new)
-        → IsAsBefore (state S.Store conn.old) (state S.Store conn.new) }
-    ensures survives { Survives (state S.Store conn.old) (state S.Store conn.new) (λ _. ⊥) }
 {
     // Its contract says that the rows obey the schema.
     let _schema = conn.schema();
@@ -115,18 +100,11 @@ fn read_rows<S: Alter>(
 ) -> Result<Lines, KeepFault>
     requires { conn.old.in_transaction ≡ false }
     ensures mode { conn.new.in_transaction ≡ false }
-    ensures ok { HasCleanDisk (state S.Store conn.new)
-        → MayReadRows in_cells (state S.Store conn.old)
-        → IfOk result (λ lines. IsTrue (state S.Store conn.old).is_open
-        × (are_cells lines ≡ in_cells) × ReadsLines (state S.Store conn.old).now lines) }
-    ensures format { HasCleanDisk (state S.Store conn.new)
-        → MayReadRows in_cells (state S.Store conn.old)
-        → result ≡ Err KeepFault.Format → IsTrue (state S.Store conn.old).is_open
-        × ((text : _) → ¬ IsFormat text (state S.Store conn.old).now) }
+    ensures reads { ReadsTables result (MayReadRows in_cells)
+        (λ db lines. (are_cells lines ≡ in_cells) × ReadsLines db lines)
+        (λ db. (text : _) → ¬ IsFormat text db)
+        (state S.Store conn.old) (state S.Store conn.new) }
     ensures ours { result ≢ Err KeepFault.NotOurs }
-    ensures same { HasCleanDisk (state S.Store conn.new)
-        → IsAsBefore (state S.Store conn.old) (state S.Store conn.new) }
-    ensures survives { Survives (state S.Store conn.old) (state S.Store conn.new) (λ _. ⊥) }
 {
     if in_cells {
         match read_joined(alloc, conn) {
@@ -146,18 +124,12 @@ fn read_rows<S: Alter>(
 pub fn read_all<S: Alter>(alloc: Global, conn: &mut Connection<S>) -> Result<Loaded, KeepFault>
     requires { conn.old.in_transaction ≡ false }
     ensures mode { conn.new.in_transaction ≡ false }
-    ensures ok { HasCleanDisk (state S.Store conn.new) → MayHaveTables (state S.Store conn.old)
-        → IfOk result (IsHeldBy (state S.Store conn.old)) }
-    ensures format { HasCleanDisk (state S.Store conn.new)
-        → HasOurTables (state S.Store conn.old).now.schema
-        → result ≡ Err KeepFault.Format → (text : _)
-        → ¬ IsFormat text (state S.Store conn.old).now }
+    ensures reads { ReadsTables result MayHaveTables IsHeldBy
+        (λ db. (text : _) → ¬ IsFormat text db)
+        (state S.Store conn.old) (state S.Store conn.new) }
     ensures ours { HasCleanDisk (state S.Store conn.new)
         → HasOurTables (state S.Store conn.old).now.schema
         → result ≡ Err KeepFault.NotOurs → NamesOther (state S.Store conn.old).now }
-    ensures same { HasCleanDisk (state S.Store conn.new)
-        → IsAsBefore (state S.Store conn.old) (state S.Store conn.new) }
-    ensures survives { Survives (state S.Store conn.old) (state S.Store conn.new) (λ _. ⊥) }
 {
     // Its contract says that the rows obey the schema.
     let in_cells = has_cell_tables(conn.schema());

@@ -1,14 +1,13 @@
 //! The rows of the tables, read and tested.
 
-ghost use Rattle.std.specs.Prelude.{◌≡◌, ◌≢◌, codes, false, IfOk, IsTrue, Err};
-ghost use Rattle.std.specs.List.{AllByRecursion};
-ghost use Rattle.sqlite.specs.State.{HasCleanDisk, Survives};
+ghost use Rattle.std.specs.Prelude.{◌≡◌, ◌≢◌, codes, false, Err};
 ghost use Rattle.sqlite.specs.Held.{state};
 ghost use Rattle.ov_tables.specs.Tables.{meta_table, line_table, head_table};
 ghost use Rattle.ov_tables.specs.Format.{IsMeta, IsLine, IsHead, entry, head_of};
 ghost use Rattle.ov_tables.specs.Format.{rows_of_meta, rows_of_line, rows_of_head};
-ghost use Rattle.ov_tables.specs.Querying.{IsAsBefore, MayRead, head_selected, row_selected};
-ghost use Rattle.ov_sqlite.specs.Reading.{ReadsRows, ReadsHeads};
+ghost use Rattle.ov_tables.specs.Querying.{MayRead, head_selected, row_selected};
+ghost use Rattle.ov_sqlite.specs.Reading.{ReadsTables, ReadsRows, ReadsHeads};
+ghost use Rattle.ov_sqlite.specs.Reading.{HasMalformedLine, HasMalformedHead};
 
 use crate::fault::fault_of;
 use crate::join::lines_of_heads;
@@ -34,18 +33,11 @@ pub(crate) fn read_meta<S: Alter>(
 ) -> Result<Named, KeepFault>
     requires { conn.old.in_transaction ≡ false }
     ensures mode { conn.new.in_transaction ≡ false }
-    ensures ok { HasCleanDisk (state S.Store conn.new)
-        → MayRead meta_table (codes "meta") (state S.Store conn.old)
-        → IfOk result (λ named. IsTrue (state S.Store conn.old).is_open
-        × IsMeta named.format named.schema (rows_of_meta (state S.Store conn.old).now.trees)) }
-    ensures format { HasCleanDisk (state S.Store conn.new)
-        → MayRead meta_table (codes "meta") (state S.Store conn.old)
-        → result ≡ Err KeepFault.Format → (n : _) → (text : _)
-        → ¬ IsMeta n text (rows_of_meta (state S.Store conn.old).now.trees) }
+    ensures reads { ReadsTables result (MayRead meta_table (codes "meta"))
+        (λ db named. IsMeta named.format named.schema (rows_of_meta db.trees))
+        (λ db. (n : _) → (text : _) → ¬ IsMeta n text (rows_of_meta db.trees))
+        (state S.Store conn.old) (state S.Store conn.new) }
     ensures ours { result ≢ Err KeepFault.NotOurs }
-    ensures same { HasCleanDisk (state S.Store conn.new)
-        → IsAsBefore (state S.Store conn.old) (state S.Store conn.new) }
-    ensures survives { Survives (state S.Store conn.old) (state S.Store conn.new) (λ _. ⊥) }
 {
     let rows = match meta_rows(conn) {
         Ok(rows) => rows,
@@ -67,19 +59,10 @@ pub(crate) fn read_meta<S: Alter>(
 pub(crate) fn read_lines<S: Alter>(conn: &mut Connection<S>) -> Result<Vec<Row>, KeepFault>
     requires { conn.old.in_transaction ≡ false }
     ensures mode { conn.new.in_transaction ≡ false }
-    ensures ok { HasCleanDisk (state S.Store conn.new)
-        → MayRead line_table (codes "line") (state S.Store conn.old)
-        → IfOk result (λ rows. IsTrue (state S.Store conn.old).is_open
-        × ReadsRows IsLine entry row_selected
-        (rows_of_line (state S.Store conn.old).now.trees) rows.items) }
-    ensures format { HasCleanDisk (state S.Store conn.new)
-        → MayRead line_table (codes "line") (state S.Store conn.old)
-        → result ≡ Err KeepFault.Format → IsTrue (state S.Store conn.old).is_open
-        × (¬ AllByRecursion IsLine (rows_of_line (state S.Store conn.old).now.trees)) }
+    ensures reads { ReadsTables result (MayRead line_table (codes "line"))
+        (λ db rows. ReadsRows IsLine entry row_selected (rows_of_line db.trees) rows.items)
+        HasMalformedLine (state S.Store conn.old) (state S.Store conn.new) }
     ensures ours { result ≢ Err KeepFault.NotOurs }
-    ensures same { HasCleanDisk (state S.Store conn.new)
-        → IsAsBefore (state S.Store conn.old) (state S.Store conn.new) }
-    ensures survives { Survives (state S.Store conn.old) (state S.Store conn.new) (λ _. ⊥) }
 {
     let rows = match line_rows(conn) {
         Ok(rows) => rows,
@@ -99,19 +82,10 @@ pub(crate) fn read_lines<S: Alter>(conn: &mut Connection<S>) -> Result<Vec<Row>,
 fn read_heads<S: Alter>(conn: &mut Connection<S>) -> Result<Vec<Row>, KeepFault>
     requires { conn.old.in_transaction ≡ false }
     ensures mode { conn.new.in_transaction ≡ false }
-    ensures ok { HasCleanDisk (state S.Store conn.new)
-        → MayRead head_table (codes "head") (state S.Store conn.old)
-        → IfOk result (λ rows. IsTrue (state S.Store conn.old).is_open
-        × ReadsRows IsHead head_of head_selected
-        (rows_of_head (state S.Store conn.old).now.trees) rows.items) }
-    ensures format { HasCleanDisk (state S.Store conn.new)
-        → MayRead head_table (codes "head") (state S.Store conn.old)
-        → result ≡ Err KeepFault.Format → IsTrue (state S.Store conn.old).is_open
-        × (¬ AllByRecursion IsHead (rows_of_head (state S.Store conn.old).now.trees)) }
+    ensures reads { ReadsTables result (MayRead head_table (codes "head"))
+        (λ db rows. ReadsRows IsHead head_of head_selected (rows_of_head db.trees) rows.items)
+        HasMalformedHead (state S.Store conn.old) (state S.Store conn.new) }
     ensures ours { result ≢ Err KeepFault.NotOurs }
-    ensures same { HasCleanDisk (state S.Store conn.new)
-        → IsAsBefore (state S.Store conn.old) (state S.Store conn.new) }
-    ensures survives { Survives (state S.Store conn.old) (state S.Store conn.new) (λ _. ⊥) }
 {
     let rows = match head_rows(conn) {
         Ok(rows) => rows,
@@ -134,18 +108,10 @@ pub(crate) fn read_bare_lines<S: Alter>(
 ) -> Result<Vec<CellLine>, KeepFault>
     requires { conn.old.in_transaction ≡ false }
     ensures mode { conn.new.in_transaction ≡ false }
-    ensures ok { HasCleanDisk (state S.Store conn.new)
-        → MayRead head_table (codes "head") (state S.Store conn.old)
-        → IfOk result (λ lines. IsTrue (state S.Store conn.old).is_open
-        × ReadsHeads (rows_of_head (state S.Store conn.old).now.trees) lines.items) }
-    ensures format { HasCleanDisk (state S.Store conn.new)
-        → MayRead head_table (codes "head") (state S.Store conn.old)
-        → result ≡ Err KeepFault.Format → IsTrue (state S.Store conn.old).is_open
-        × (¬ AllByRecursion IsHead (rows_of_head (state S.Store conn.old).now.trees)) }
+    ensures reads { ReadsTables result (MayRead head_table (codes "head"))
+        (λ db lines. ReadsHeads (rows_of_head db.trees) lines.items) HasMalformedHead
+        (state S.Store conn.old) (state S.Store conn.new) }
     ensures ours { result ≢ Err KeepFault.NotOurs }
-    ensures same { HasCleanDisk (state S.Store conn.new)
-        → IsAsBefore (state S.Store conn.old) (state S.Store conn.new) }
-    ensures survives { Survives (state S.Store conn.old) (state S.Store conn.new) (λ _. ⊥) }
 {
     let heads = match read_heads(conn) {
         Ok(heads) => heads,

@@ -180,7 +180,7 @@ module _ {S : Type 0} (g : Ghosts S) (settled : (s : S) (db : Trees) → IsTrue 
 
   -- what a load reads is what an open may find after it
   pub loaded_found : (old new : Connected S) (loaded : Loaded) → HasCleanDisk (state g new) → Survives (state g old) (state g new) (λ _. ⊥) → HoldsLoaded (state g old) loaded → (contents : Stored) → MayFind g new contents → contents ≡ loaded_contents loaded
-  loaded_found old new loaded clean s it contents here = found_is old it.tables.is_open it.settled contents (survives_found old new clean s contents here) ∙ it.tables.holds
+  loaded_found old new loaded clean s it contents here = found_is old it.is_open it.settled contents (survives_found old new clean s contents here) ∙ it.tables.holds
 
   pub survives_left : (old new : Connected S) → HasCleanDisk (state g new) → Survives (state g old) (state g new) (λ _. ⊥) → (db : Trees) → g.recovers new.store db → g.recovers old.store db
   survives_left old new clean s db found = elim (s.crash clean db found) [ inl before ↦ before | inr none ↦ absurd none ]

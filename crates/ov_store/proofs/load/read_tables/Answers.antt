@@ -7,9 +7,10 @@ use Rattle.ov_store.proofs.load.read_tables.Goals as goal
 pub returns-clause-ok : goal.returns-clause-ok
 returns-clause-ok g c clean may =
     IfOk-weaker c.read_all.result _ _ (λ loaded it. record {
-      tables = it;
-      settled = c.is_autocommit-before.ensures.settled (rw (c.is_autocommit-before.ensures.value, c.requires) refl) it.is_open;
-    }) (c.read_all.ensures.ok clean may)
+      is_open = it.0;
+      tables = it.1;
+      settled = c.is_autocommit-before.ensures.settled (rw (c.is_autocommit-before.ensures.value, c.requires) refl) it.0;
+    }) (c.read_all.ensures.reads.ok clean may)
 
 pub returns-clause-told : goal.returns-clause-told
 returns-clause-told g c = refusals_told Testing c.read_all.result

@@ -18,7 +18,7 @@ returns-in-Ok-clause-ok g c clean contents found =
     let read = c.in-Ok.ensures.ok clean may in
     let same : conn ≡ c.args.self.now.connection = ap (λ (s : StoreState _). s.connection) c.self.view_is in
     let here : MayFind g.S.Store conn contents = subst (λ h. MayFind g.S.Store h contents) (sym same) found in
-    found_is g.S.Store g.met.S.Store.settled g.met.S.Store.stays conn read.tables.is_open read.settled contents here ∙ read.tables.holds
+    found_is g.S.Store g.met.S.Store.settled g.met.S.Store.stays conn read.is_open read.settled contents here ∙ read.tables.holds
 
 pub returns-in-Ok-clause-of_format : goal.returns-in-Ok-clause-of_format
 returns-in-Ok-clause-of_format g c clean =
@@ -26,8 +26,8 @@ returns-in-Ok-clause-of_format g c clean =
     let early : HasCleanDisk (state g.S.Store conn) = omega (arith, c.read_tables.ensures.survives.clean) in
     let text = text_in (state g.S.Store conn).now in
     let may : MayHaveTables (state g.S.Store conn) = λ up. tables_stored c.self.inside.format text (state g.S.Store conn).now (c.self.invariant.stored early up) in
-    let read = (c.in-Ok.ensures.ok clean may).tables in
-    ap (λ (s : Stored). format_of s.lines) (sym read.holds) ∙ stored_format c.self.inside.format text (state g.S.Store conn).now (c.self.invariant.stored early read.is_open)
+    let read = c.in-Ok.ensures.ok clean may in
+    ap (λ (s : Stored). format_of s.lines) (sym read.tables.holds) ∙ stored_format c.self.inside.format text (state g.S.Store conn).now (c.self.invariant.stored early read.is_open)
 
 pub returns-in-Ok-clause-same : goal.returns-in-Ok-clause-same
 returns-in-Ok-clause-same g c clean =
