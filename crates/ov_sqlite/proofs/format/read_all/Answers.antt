@@ -1,4 +1,4 @@
-use Rattle.std.proofs.Common.{◌∙◌, ◌==◌, ◌↔◌, inl, inr, sym, subst, arith, MatchBool, IsTrue}
+use Rattle.std.proofs.Common.{◌∙◌, ◌==◌, ◌↔◌, inl, inr, sym, subst, arith, MatchBool, IsTrue, rules}
 use Rattle.sqlite.specs.Effect.{Database}
 use Rattle.sqlite.specs.State.{HasCleanDisk}
 use Rattle.sqlite.specs.Held.{state}
