@@ -14,8 +14,8 @@ use Rattle.ov_specs.specs.rows.Cells.{CellLine, CellLines, cell_lines}
 use Rattle.ov_tables.specs.Tables.{meta_table, head_table, cell_table, tree_of, row_trees, HasCellTables, cell_insert_text, cell_delete_text, head_insert_text, head_delete_text}
 use Rattle.ov_tables.specs.Format.{IsMeta, IsKeyed, IsHead, IsCell, row_key, head_of, cell_of, stored_cells, rows_of_head, rows_of_cell}
 use Rattle.ov_tables.specs.Holding.{HoldsCells, IsNumbered, is_among}
-use Rattle.ov_sqlite.specs.Changing.{Makes, Becomes, IsEmptied, IsBegun, IsAdded, AreAdded}
-use Rattle.ov_sqlite.specs.Joining.{Entry, entry_in}
+use Rattle.ov_sqlite.specs.Changing.{MakesRows, Becomes, IsEmptied, IsRowBegun, IsCellAdded, AreCellsAdded}
+use Rattle.ov_sqlite.specs.Joining.{CellEntry, entry_in}
 use Rattle.ov_tables.proofs.ListingLemmas.{Touches, rows_beside, others_kept}
 use Rattle.ov_tables.proofs.Statements.{key_terms, head_insert_terms, cell_insert_terms, head_insert_parsed, cell_insert_parsed, head_delete_parsed, cell_delete_parsed}
 use Rattle.ov_tables.proofs.HeadTexts.{head_insert_is, head_delete_is}
@@ -52,7 +52,7 @@ module _ (text : List ℕ) (old new : State) (stored : HoldsCells text old.now) 
 
   -- `head` has other rows
   head_changed : (Became : CellLines → CellLines → Type 0) (rows : List Row) → Touches (head_table h) old.now new.now → rows_of_head new.now.trees ≡ rows → AllByRecursion IsHead rows → IsNumbered head_of rows
-      → AllByRecursion (HasHead rows) C → Became (stored_cells old.now.trees) (cell_lines (map head_of rows) (map cell_of C)) → Makes text Became old new
+      → AllByRecursion (HasHead rows) C → Became (stored_cells old.now.trees) (cell_lines (map head_of rows) (map cell_of C)) → MakesRows text Became old new
   head_changed Became rows only are heads numbered owned became =
       let meta = rows_beside old.now new.now (head_table h) only (meta_table (tree_of old.now.schema (codes "meta"))) has.meta stored.sound (meta_not_head old.now.schema has) in
       let cells = rows_beside old.now new.now (head_table h) only (cell_table c) has.cell stored.sound (cell_not_head old.now.schema has) in
@@ -87,7 +87,7 @@ module _ (text : List ℕ) (old new : State) (stored : HoldsCells text old.now) 
 
   -- `cell` has other rows
   cell_changed : (Became : CellLines → CellLines → Type 0) (rows : List Row) → Touches (cell_table c) old.now new.now → rows_of_cell new.now.trees ≡ rows → AllByRecursion IsCell rows → IsNumbered cell_of rows
-      → AllByRecursion (HasHead H) rows → Became (stored_cells old.now.trees) (cell_lines (map head_of H) (map cell_of rows)) → Makes text Became old new
+      → AllByRecursion (HasHead H) rows → Became (stored_cells old.now.trees) (cell_lines (map head_of H) (map cell_of rows)) → MakesRows text Became old new
   cell_changed Became rows only are cells numbered owned became =
       let meta = rows_beside old.now new.now (cell_table c) only (meta_table (tree_of old.now.schema (codes "meta"))) has.meta stored.sound (meta_not_cell old.now.schema has) in
       let heads = rows_beside old.now new.now (cell_table c) only (head_table h) has.head stored.sound (head_not_cell old.now.schema has) in
@@ -114,14 +114,14 @@ module _ (text : List ℕ) (old new : State) (stored : HoldsCells text old.now) 
       }
 
   module _ (k : LineKey) (count : ℕ) where
-    pub cells_removed : Executes cell_delete_text (Text k.0 ∷ Blob k.1 ∷ []) old new (Ok count) → Makes text (IsEmptied k) old new
+    pub cells_removed : Executes cell_delete_text (Text k.0 ∷ Blob k.1 ∷ []) old new (Ok count) → MakesRows text (IsEmptied k) old new
     cells_removed ran =
         let d = deletes old new (cell_table c) cell_delete_text key_terms (Text k.0 ∷ Blob k.1 ∷ []) cell_delete_parsed has.cell stored.sound (λ at it. cell_delete_is old.now.schema at c it) count ran in
         let keyed = all_weaker _ _ (λ r (is : IsCell r). is.keyed) C stored.format.cells in
         let left = d.left ∙ left_keyed k C d.rows keyed (numbered_part cell_of (λ c. c.key) C stored.cells_numbered) d.same in
         cell_changed (IsEmptied k) (others k C) d.only left (all-filter _ _ C stored.format.cells) (filter_numbered cell_of _ C stored.cells_numbered) (all-filter _ _ C heads_are) (emptied k H C)
 
-    pub head_removed : IfSome (get (stored_cells old.now.trees) k) (λ l. l.1 ≡ empty) → Executes head_delete_text (Text k.0 ∷ Blob k.1 ∷ []) old new (Ok count) → Makes text (Becomes (λ m. remove m k)) old new
+    pub head_removed : IfSome (get (stored_cells old.now.trees) k) (λ l. l.1 ≡ empty) → Executes head_delete_text (Text k.0 ∷ Blob k.1 ∷ []) old new (Ok count) → MakesRows text (Becomes (λ m. remove m k)) old new
     head_removed none ran =
         let d = deletes old new (head_table h) head_delete_text key_terms (Text k.0 ∷ Blob k.1 ∷ []) head_delete_parsed has.head stored.sound (λ at it. head_delete_is old.now.schema at h it) count ran in
         let keyed = all_weaker _ _ (λ r (is : IsHead r). is.keyed) H stored.format.heads in
@@ -135,7 +135,7 @@ module _ (text : List ℕ) (old new : State) (stored : HoldsCells text old.now) 
     keyed_row r n number tbl id = record { number = n; tbl = t; id = i; number_is = number; tbl_is = tbl; id_is = id; named = named; id_sixteen = id_sixteen }
 
     pub head_inserted : (v : List ℕ) → length v ≡ 16 → Executes head_insert_text (Text t ∷ Blob i ∷ Blob v ∷ []) old new (Ok count)
-        → Makes text (IsBegun (t, i) v) old new
+        → MakesRows text (IsRowBegun (t, i) v) old new
     head_inserted v ver_sixteen ran =
         let d = inserts old new (codes "head") h _ (1 ∷ 2 ∷ []) head_insert_text head_insert_terms 4 (Text t ∷ Blob i ∷ Blob v ∷ []) (head_row t i v) head_insert_parsed has.head stored.sound (λ at it. head_insert_is old.now.schema at h it) (head_adds h t i v) count ran in
         let x = head_row t i v d.number in
@@ -146,7 +146,7 @@ module _ (text : List ℕ) (old new : State) (stored : HoldsCells text old.now) 
         let absent = new_head x H d.fresh stored.format.heads is apart in
         let none : get (stored_cells old.now.trees) (t, i) ≡ None = get_lines C H (t, i) ∙ ap (line_at C (t, i)) (passes_none (has_key (t, i)) H absent) in
         let bare_cells : IsAbsent (t, i) C = bare (t, i) H C heads_are (subst (λ o. IfSome o (λ l. l.1 ≡ empty)) (sym none) tt) in
-        head_changed (IsBegun (t, i) v) (put_row x H) d.only d.rows (all-put_row IsHead x H is stored.format.heads) (put_numbered head_of x H fresh stored.heads_numbered)
+        head_changed (IsRowBegun (t, i) v) (put_row x H) d.only d.rows (all-put_row IsHead x H is stored.format.heads) (put_numbered head_of x H fresh stored.heads_numbered)
         (all_weaker _ _ (λ r there. any_put (has_key (row_key r)) x H fresh ∙ or_true _ _ there) C heads_are) (none, headed x H C fresh absent bare_cells)
       where
         or_true : (a b : Bool) → b ≡ true → (a || b) ≡ true
@@ -154,7 +154,7 @@ module _ (text : List ℕ) (old new : State) (stored : HoldsCells text old.now) 
         or_true false b e = e
 
     pub cell_inserted : (name body : List ℕ) (l : CellLine) → IsUtf8 name → get (stored_cells old.now.trees) (t, i) ≡ Some l → Executes cell_insert_text (Text t ∷ Blob i ∷ Text name ∷ Blob body ∷ []) old new (Ok count)
-        → Makes text (IsAdded (t, i) name body) old new
+        → MakesRows text (IsCellAdded (t, i) name body) old new
     cell_inserted name body l col_named line ran =
         let d = inserts old new (codes "cell") c _ (1 ∷ 2 ∷ 3 ∷ []) cell_insert_text cell_insert_terms 5 (Text t ∷ Blob i ∷ Text name ∷ Blob body ∷ []) (cell_row t i name body) cell_insert_parsed has.cell stored.sound (λ at it. cell_insert_is old.now.schema at c it) (cell_adds c t i name body) count ran in
         let x = cell_row t i name body d.number in
@@ -163,25 +163,25 @@ module _ (text : List ℕ) (old new : State) (stored : HoldsCells text old.now) 
         let table = subst (λ s. Rattle.ov_tables.specs.Tables.HasTable s (cell_table c)) (sym d.only.schema) has.cell in
         let apart = subst (AreApart (1 ∷ 2 ∷ 3 ∷ [])) d.rows (apart_by_key new.now (codes "cell") c _ (1 ∷ 2 ∷ 3 ∷ []) table d.only.sound) in
         let free = new_cell x C d.fresh stored.format.cells is apart in
-        cell_changed (IsAdded (t, i) name body) (put_row x C) d.only d.rows (all-put_row IsCell x C is stored.format.cells) (put_numbered cell_of x C fresh stored.cells_numbered)
+        cell_changed (IsCellAdded (t, i) name body) (put_row x C) d.only d.rows (all-put_row IsCell x C is stored.format.cells) (put_numbered cell_of x C fresh stored.cells_numbered)
         (all-put_row (HasHead H) x C (head_there H C x l line) heads_are) (λ l e. celled x C fresh free H l e)
 
-    abbrev pub cell_rows : List Entry → List (ℤ → Row)
-    cell_rows entries = map (λ (e : Entry). cell_row t i e.0 e.1) entries
+    abbrev pub cell_rows : List CellEntry → List (ℤ → Row)
+    cell_rows entries = map (λ (e : CellEntry). cell_row t i e.0 e.1) entries
 
-    rows_are_cells : (entries : List Entry) (rows : List Row) → AllByRecursion (λ (e : Entry). IsUtf8 e.0) entries → AllByRecursion (λ x. IsCell x × (row_key x ≡ (t, i))) (next_rows (cell_rows entries) rows)
+    rows_are_cells : (entries : List CellEntry) (rows : List Row) → AllByRecursion (λ (e : CellEntry). IsUtf8 e.0) entries → AllByRecursion (λ x. IsCell x × (row_key x ≡ (t, i))) (next_rows (cell_rows entries) rows)
     rows_are_cells [] rows all = tt
     rows_are_cells (e ∷ entries) rows all =
         let n = next_rowid rows in
         let x = cell_row t i e.0 e.1 n in
         ((record { keyed = keyed_row x n refl refl refl; col = e.0; body = e.1; col_is = refl; body_is = refl; col_named = all.0 }, refl), rows_are_cells entries (put_row x rows) all.1)
 
-    rows_have : (entries : List Entry) (rows : List Row) → map entry_in (next_rows (cell_rows entries) rows) ≡ entries
+    rows_have : (entries : List CellEntry) (rows : List Row) → map entry_in (next_rows (cell_rows entries) rows) ≡ entries
     rows_have [] rows = refl
     rows_have (e ∷ entries) rows = ap (λ es. e ∷ es) (rows_have entries (put_row (cell_row t i e.0 e.1 (next_rowid rows)) rows))
 
     -- `cell` has more rows, each a cell of this row
-    more_inserted : (entries : List Entry) (l : CellLine) → AllByRecursion (λ (e : Entry). IsUtf8 e.0) entries → get (stored_cells old.now.trees) (t, i) ≡ Some l → InsertsAll (cell_table c) (cell_rows entries) old new → Makes text (AreAdded (t, i) entries) old new
+    more_inserted : (entries : List CellEntry) (l : CellLine) → AllByRecursion (λ (e : CellEntry). IsUtf8 e.0) entries → get (stored_cells old.now.trees) (t, i) ≡ Some l → InsertsAll (cell_table c) (cell_rows entries) old new → MakesRows text (AreCellsAdded (t, i) entries) old new
     more_inserted entries l named_all line d =
         let xs = next_rows (cell_rows entries) C in
         let are = rows_are_cells entries C named_all in
@@ -190,11 +190,11 @@ module _ (text : List ℕ) (old new : State) (stored : HoldsCells text old.now) 
         let table = subst (λ s. Rattle.ov_tables.specs.Tables.HasTable s (cell_table c)) (sym d.only.schema) has.cell in
         let apart = subst (AreApart (1 ∷ 2 ∷ 3 ∷ [])) d.rows (apart_by_key new.now (codes "cell") c _ (1 ∷ 2 ∷ 3 ∷ []) table d.only.sound) in
         let added = cells_added H (t, i) xs C l d.fresh stored.format.cells are apart line in
-        cell_changed (AreAdded (t, i) entries) (put_all C xs) d.only d.rows (all_put IsCell xs C cells stored.format.cells) (all_numbered cell_of xs C d.fresh stored.cells_numbered) (all_put (HasHead H) xs C owned heads_are)
-        (subst (λ es. AreAdded (t, i) es (stored_cells old.now.trees) (cell_lines (map head_of H) (map cell_of (put_all C xs)))) (rows_have entries C) added)
+        cell_changed (AreCellsAdded (t, i) entries) (put_all C xs) d.only d.rows (all_put IsCell xs C cells stored.format.cells) (all_numbered cell_of xs C d.fresh stored.cells_numbered) (all_put (HasHead H) xs C owned heads_are)
+        (subst (λ es. AreCellsAdded (t, i) es (stored_cells old.now.trees) (cell_lines (map head_of H) (map cell_of (put_all C xs)))) (rows_have entries C) added)
 
-    pub four_inserted : (p q r s : Entry) (l : CellLine) → IsUtf8 p.0 → IsUtf8 q.0 → IsUtf8 r.0 → IsUtf8 s.0 → get (stored_cells old.now.trees) (t, i) ≡ Some l
-        → Executes four_cells_text (four_values t i p q r s) old new (Ok count) → Makes text (AreAdded (t, i) (p ∷ q ∷ r ∷ s ∷ [])) old new
+    pub four_inserted : (p q r s : CellEntry) (l : CellLine) → IsUtf8 p.0 → IsUtf8 q.0 → IsUtf8 r.0 → IsUtf8 s.0 → get (stored_cells old.now.trees) (t, i) ≡ Some l
+        → Executes four_cells_text (four_values t i p q r s) old new (Ok count) → MakesRows text (AreCellsAdded (t, i) (p ∷ q ∷ r ∷ s ∷ [])) old new
     four_inserted p q r s l np nq nr ns line ran =
         more_inserted (p ∷ q ∷ r ∷ s ∷ []) l (np, (nq, (nr, (ns, tt)))) line
         (inserts_all old new (codes "cell") c _ (1 ∷ 2 ∷ 3 ∷ []) four_cells_text four_cells_terms 5 (four_values t i p q r s) (cell_rows (p ∷ q ∷ r ∷ s ∷ [])) four_cells_parsed has.cell stored.sound (λ at it. four_cells_is old.now.schema at c it) (four_adds c t i p q r s) count ran)

@@ -24,7 +24,7 @@ use Rattle.ov_tables.proofs.Compiling.{lowering}
 use Rattle.ov_tables.proofs.Statements.{does}
 use Rattle.ov_tables.proofs.TableLemmas.{Stands}
 use Rattle.ov_tables.proofs.InsertLemmas.{cell_row}
-use Rattle.ov_sqlite.specs.Joining.{Entry}
+use Rattle.ov_sqlite.specs.Joining.{CellEntry}
 use Rattle.ov_sqlite.proofs.ManyLemmas.{AddsAll}
 
 abbrev pub four_cells_text : List ℕ
@@ -75,10 +75,10 @@ unfolding unary
 cast_null = either _ Null
 
 -- the values of the parameters
-abbrev pub four_values : List ℕ → List ℕ → Entry → Entry → Entry → Entry → Row
+abbrev pub four_values : List ℕ → List ℕ → CellEntry → CellEntry → CellEntry → CellEntry → Row
 four_values t i p q r s =
     Text t ∷ Blob i ∷ Text p.0 ∷ Blob p.1 ∷ Text q.0 ∷ Blob q.1 ∷ Text r.0 ∷ Blob r.1 ∷ Text s.0 ∷ Blob s.1 ∷ []
 
-pub four_adds : (l : ℕ) (t i : List ℕ) (p q r s : Entry)
-    → AddsAll (cell_table l) four_cells_terms 5 (four_values t i p q r s) (map (λ (e : Entry). cell_row t i e.0 e.1) (p ∷ q ∷ r ∷ s ∷ []))
+pub four_adds : (l : ℕ) (t i : List ℕ) (p q r s : CellEntry)
+    → AddsAll (cell_table l) four_cells_terms 5 (four_values t i p q r s) (map (λ (e : CellEntry). cell_row t i e.0 e.1) (p ∷ q ∷ r ∷ s ∷ []))
 four_adds l t i p q r s db = rw cast_null refl

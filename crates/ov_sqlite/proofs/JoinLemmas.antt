@@ -19,11 +19,11 @@ use Rattle.ov_sqlite.proofs.NumberLemmas.{all_push, all_first, all_last, push_nu
 use Rattle.sqlite.specs.declared.types.Value.TheVariants.{Int}
 use Rattle.ov_sqlite.specs.declared.join.Joining.{Joining}
 use Rattle.ov_sqlite.specs.Joined.{AreJoined, HasJoined, HasRefused}
-use Rattle.ov_sqlite.specs.Joining.{Entry, Parts, line_parts, entries_of, head_parts, with_cell, entry_in, AreDistinct}
+use Rattle.ov_sqlite.specs.Joining.{CellEntry, Parts, line_parts, entries_of, head_parts, with_cell, entry_in, AreDistinct}
 
 -- the cells of a key, with one row more
 more_entries : (D : List Row) (x : Row) (k : LineKey) → entries_of (D ++ x ∷ []) k ≡ entries_of D k ++ cond (same_key (row_key x) k) (entry_in x ∷ []) []
-more_entries [] x k = elim (same_key (row_key x) k) as (λ b. map (λ c. (c.column, c.body)) (cond {A = List _} b (cell_of x ∷ []) []) ≡ cond {A = List Entry} b (entry_in x ∷ []) []) [ true ↦ refl | false ↦ refl ]
+more_entries [] x k = elim (same_key (row_key x) k) as (λ b. map (λ c. (c.column, c.body)) (cond {A = List _} b (cell_of x ∷ []) []) ≡ cond {A = List CellEntry} b (entry_in x ∷ []) []) [ true ↦ refl | false ↦ refl ]
 more_entries (d ∷ D) x k =
     let next = more_entries D x k in
     elim (same_key (row_key d) k) as (λ b. map (λ c. (c.column, c.body)) (cond {A = List _} b (cell_of d ∷ filter (λ c. same_key c.key k) (map cell_of (D ++ x ∷ []))) (filter (λ c. same_key c.key k) (map cell_of (D ++ x ∷ []))))

@@ -35,8 +35,8 @@ use Rattle.ov_tables.proofs.TableLemmas.{our_step, Stands}
 use Rattle.ov_tables.proofs.ListingLemmas.{Touches, stands_in, rows_are, rows_after, touches}
 use Rattle.ov_tables.proofs.Statements.{does}
 use Rattle.ov_tables.proofs.DeleteLemmas.{went, same_value, at_placed}
-use Rattle.ov_sqlite.specs.Changing.{IsAdded, AreAdded, IsRefilled, MayHave, Makes}
-use Rattle.ov_sqlite.specs.Joining.{Entry, entry_in}
+use Rattle.ov_sqlite.specs.Changing.{IsCellAdded, AreCellsAdded, IsRefilled, MayHave, MakesRows}
+use Rattle.ov_sqlite.specs.Joining.{CellEntry, entry_in}
 use Rattle.ov_sqlite.proofs.PutLemmas.{not_taken, put_numbered}
 use Rattle.ov_sqlite.proofs.CellLemmas.{names_total, names_exact, celled}
 use Rattle.ov_sqlite.proofs.KeyLemmas.{AreApart, new_cell}
@@ -116,31 +116,31 @@ apart_part places few all within apart =
 
 -- cells that were added to the row of a key, where the table has each cell once
 pub cells_added : (H : List Row) (k : LineKey) (xs C : List Row) (l : CellLine) → are_fresh C xs ≡ true → AllByRecursion IsCell C → AllByRecursion (λ x. IsCell x × (row_key x ≡ k)) xs → AreApart (1 ∷ 2 ∷ 3 ∷ []) (put_all C xs)
-    → get (cell_lines (map head_of H) (map cell_of C)) k ≡ Some l → AreAdded k (map entry_in xs) (cell_lines (map head_of H) (map cell_of C)) (cell_lines (map head_of H) (map cell_of (put_all C xs)))
+    → get (cell_lines (map head_of H) (map cell_of C)) k ≡ Some l → AreCellsAdded k (map entry_in xs) (cell_lines (map head_of H) (map cell_of C)) (cell_lines (map head_of H) (map cell_of (put_all C xs)))
 cells_added H k [] C l fresh cells are apart there = refl
 cells_added H k (x ∷ xs) C l fresh cells are apart there =
     let one = fresh_first C x xs fresh in
     let more = (and_parts _ _ fresh).1 in
     let here = apart_part (1 ∷ 2 ∷ 3 ∷ []) (put_row x C) (put_all C (x ∷ xs)) (λ r h. put_all_keeps xs (put_row x C) r more h) apart in
     let free = new_cell x C one cells are.0.0 here in
-    let added : IsAdded k (bytes (column x 3)) (bytes (column x 4)) (cell_lines (map head_of H) (map cell_of C)) (cell_lines (map head_of H) (map cell_of (put_row x C))) =
-    subst (λ q. IsAdded q (bytes (column x 3)) (bytes (column x 4)) (cell_lines (map head_of H) (map cell_of C)) (cell_lines (map head_of H) (map cell_of (put_row x C)))) are.0.1
+    let added : IsCellAdded k (bytes (column x 3)) (bytes (column x 4)) (cell_lines (map head_of H) (map cell_of C)) (cell_lines (map head_of H) (map cell_of (put_row x C))) =
+    subst (λ q. IsCellAdded q (bytes (column x 3)) (bytes (column x 4)) (cell_lines (map head_of H) (map cell_of C)) (cell_lines (map head_of H) (map cell_of (put_row x C)))) are.0.1
     (λ l e. celled x C (not_taken C x one) free H l e) in
     let next = ap (λ (m : CellLines). get m k) (added l there).1 ∙ put_found _ k _ in
     (cell_lines (map head_of H) (map cell_of (put_row x C)), added, cells_added H k xs (put_row x C) _ more (all-put_row IsCell x C are.0.0 cells) are.1 apart next)
 
 -- cells and then more
-pub added_then : (k : LineKey) (xs ys : List Entry) (a b c : CellLines) → AreAdded k xs a b → AreAdded k ys b c → AreAdded k (xs ++ ys) a c
-added_then k [] ys a b c first then = subst (λ (m : CellLines). AreAdded k ys m c) first then
+pub added_then : (k : LineKey) (xs ys : List CellEntry) (a b c : CellLines) → AreCellsAdded k xs a b → AreCellsAdded k ys b c → AreCellsAdded k (xs ++ ys) a c
+added_then k [] ys a b c first then = subst (λ (m : CellLines). AreCellsAdded k ys m c) first then
 added_then k (x ∷ xs) ys a b c first then = (first.0, first.1, added_then k xs ys first.0 b c first.2 then)
 
 -- the row is still there
-pub added_there : (k : LineKey) (xs : List Entry) (a b : CellLines) (l : CellLine) → get a k ≡ Some l → AreAdded k xs a b → (m : CellLine) × (get b k ≡ Some m)
+pub added_there : (k : LineKey) (xs : List CellEntry) (a b : CellLines) (l : CellLine) → get a k ≡ Some l → AreCellsAdded k xs a b → (m : CellLine) × (get b k ≡ Some m)
 added_there k [] a b l there added = (l, ap (λ (m : CellLines). get m k) added ∙ there)
 added_there k (x ∷ xs) a b l there added = added_there k xs added.0 b _ (ap (λ (m : CellLines). get m k) (added.1 l there).1 ∙ put_found a k _) added.2
 
 -- a row that had some cells has these after them
-more_cells : (k : LineKey) (v : List ℕ) (had xs : List Entry) (a b : CellLines) → get a k ≡ Some (v, from_entries had) → AreAdded k xs a b → b ≡ insert a k (v, from_entries (had ++ xs))
+more_cells : (k : LineKey) (v : List ℕ) (had xs : List CellEntry) (a b : CellLines) → get a k ≡ Some (v, from_entries had) → AreCellsAdded k xs a b → b ≡ insert a k (v, from_entries (had ++ xs))
 more_cells k v had [] a b there added = added ∙ put_back a k _ there ∙ ap (λ es. insert a k (v, from_entries es)) (sym (append-nil had))
 more_cells k v had (x ∷ xs) a b there added =
     let one = added.1 (v, from_entries had) there in
@@ -151,11 +151,11 @@ more_cells k v had (x ∷ xs) a b there added =
     rest ∙ ap (λ (m : CellLines). insert m k (v, from_entries ((had ++ x ∷ []) ++ xs))) mid ∙ put_over a k _ _ ∙ ap (λ es. insert a k (v, from_entries es)) (append_assoc had (x ∷ []) xs)
 
 -- a row without cells has these
-pub refilled : (k : LineKey) (v : List ℕ) (xs : List Entry) (a b : CellLines) → AreAdded k xs a b → IsRefilled k (v, from_entries xs) a b
+pub refilled : (k : LineKey) (v : List ℕ) (xs : List CellEntry) (a b : CellLines) → AreCellsAdded k xs a b → IsRefilled k (v, from_entries xs) a b
 refilled k v xs a b added start = more_cells k v [] xs a b start added
 
 -- a row that was there may still be found
-pub may_still : (text : List ℕ) (k : LineKey) (xs : List Entry) (a b : State) → Makes text (AreAdded k xs) a b → MayHave k (λ _. Unit {0}) a → MayHave k (λ _. Unit {0}) b
+pub may_still : (text : List ℕ) (k : LineKey) (xs : List CellEntry) (a b : State) → MakesRows text (AreCellsAdded k xs) a b → MayHave k (λ _. Unit {0}) a → MayHave k (λ _. Unit {0}) b
 may_still text k xs a b made there up =
     let was = there (made.opens up) in
     let is = added_there k xs (stored_cells a.now.trees) (stored_cells b.now.trees) was.0 was.1 made.lines_are in

@@ -6,7 +6,7 @@ use Rattle.std.specs.FinMap.{empty, get, insert, remove, from_entries, get-from_
 use Rattle.ov_specs.specs.rows.Lines.{LineKey, line_cmp}
 use Rattle.ov_specs.specs.rows.Cells.{CellLine, CellLines, Cells}
 use Rattle.ov_specs.proofs.laws.LineKeys.{key_total, key_exact, tied_same, same_tied}
-use Rattle.ov_sqlite.specs.Changing.{IsEmptied, IsBegun, IsRefilled}
+use Rattle.ov_sqlite.specs.Changing.{IsEmptied, IsRowBegun, IsRefilled}
 use Rattle.ov_sqlite.proofs.CellLemmas.{bared}
 
 -- what was put is found
@@ -48,6 +48,6 @@ gone_after k a b c gone is = is ∙ same_map key_total key_exact _ _ (λ q.
     at q false apart = gone q ∙ rw ((eq_by_cmp_equiv key_total).symm k q ∙ apart) refl
 
 -- a new row with its cells
-pub put_new : (k : LineKey) (v : List ℕ) (all : Cells) (a b c : CellLines) → IsBegun k v a b → IsRefilled k (v, all) b c → c ≡ insert a k (v, all)
+pub put_new : (k : LineKey) (v : List ℕ) (all : Cells) (a b c : CellLines) → IsRowBegun k v a b → IsRefilled k (v, all) b c → c ≡ insert a k (v, all)
 put_new k v all a b c begun cells =
     cells (ap (λ (m : CellLines). get m k) begun.1 ∙ put_found a k (v, empty)) ∙ ap (λ (m : CellLines). insert m k (v, all)) begun.1 ∙ put_over a k _ _

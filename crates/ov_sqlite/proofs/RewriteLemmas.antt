@@ -14,7 +14,7 @@ use Rattle.sqlite_schema.specs.Names.{same_name, table_named}
 use Rattle.ov_tables.specs.Tables.{row_trees, cell_trees}
 use Rattle.ov_tables.specs.Format.{IsMeta, stored_cells, rows_of_meta}
 use Rattle.ov_tables.specs.Holding.{IsStored, HoldsLines, HoldsCells, MayBeStored, KeepsOthers}
-use Rattle.ov_sqlite.specs.Changing.{Makes, Becomes}
+use Rattle.ov_sqlite.specs.Changing.{MakesRows, Becomes}
 use Rattle.ov_tables.specs.Making.{Fills}
 use Rattle.ov_tables.specs.Querying.{IsAsBefore}
 use Rattle.ov_tables.specs.Emptying.{Empties, KeepsRest}
@@ -33,7 +33,7 @@ by_format text s true is (inl lines) = absurd (let none = ap is_some (is_free s.
 by_format text s false is (inr cells) =
     absurd (let there = (found_place (λ t. same_name t.name (codes "head")) 0 s.now.schema.tables _ cells.format.schema.head.named).1 in let clash : false ≡ true = is ∙ ap is_some there in cc)
 
-pub remade : (text : List ℕ) (f : CellLines → CellLines) (old a b new : State) → Empties old a → Fills text a b → Makes text (Becomes f) b new → Remakes text (f empty) old new
+pub remade : (text : List ℕ) (f : CellLines → CellLines) (old a b new : State) → Empties old a → Fills text a b → MakesRows text (Becomes f) b new → Remakes text (f empty) old new
 remade text f old a b new e filled made =
     let schema = a.now.schema in
     let trees = cell_trees schema in

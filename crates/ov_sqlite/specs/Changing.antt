@@ -16,7 +16,7 @@ use Rattle.ov_tables.specs.Tables.{row_trees}
 use Rattle.ov_tables.specs.Holding.{HoldsCells, MayHoldCells, KeepsOthers}
 
 -- in a transaction that goes on, the rows of stored format 2 became others, as `Became` relates them, and nothing was committed
-pub record Makes (text : List ℕ) (Became : CellLines → CellLines → Type 0) (old new : State)
+pub record MakesRows (text : List ℕ) (Became : CellLines → CellLines → Type 0) (old new : State)
     : Type 0 where
   pub mode : IsTrue new.in_transaction
   pub opens : IsTrue new.is_open → IsTrue old.is_open
@@ -36,20 +36,20 @@ IsEmptied key old new =
     ≡ cond (eq_by_cmp line_cmp key q) (option_map (λ l. (l.0, empty)) (get old q)) (get old q)
 
 -- there was no row of this key, and now there is one of this version, without cells
-abbrev pub IsBegun : LineKey → Uuid → CellLines → CellLines → Type 0
-IsBegun key version old new = (get old key ≡ None) × (new ≡ insert old key (version, empty))
+abbrev pub IsRowBegun : LineKey → Uuid → CellLines → CellLines → Type 0
+IsRowBegun key version old new = (get old key ≡ None) × (new ≡ insert old key (version, empty))
 
 -- the row of this key has one more cell, of a column that had none
-abbrev pub IsAdded : LineKey → List ℕ → List ℕ → CellLines → CellLines → Type 0
-IsAdded key name body old new =
+abbrev pub IsCellAdded : LineKey → List ℕ → List ℕ → CellLines → CellLines → Type 0
+IsCellAdded key name body old new =
     (l : CellLine) → get old key ≡ Some l
     → (get l.1 name ≡ None) × (new ≡ insert old key (l.0, insert l.1 name body))
 
 -- the row of this key has these cells more, one after the other, each of a column that had none
-abbrev pub AreAdded : LineKey → List (List ℕ × List ℕ) → CellLines → CellLines → Type 0
-AreAdded key [] old new = new ≡ old
-AreAdded key (c ∷ cs) old new =
-    (mid : CellLines) × IsAdded key c.0 c.1 old mid × AreAdded key cs mid new
+abbrev pub AreCellsAdded : LineKey → List (List ℕ × List ℕ) → CellLines → CellLines → Type 0
+AreCellsAdded key [] old new = new ≡ old
+AreCellsAdded key (c ∷ cs) old new =
+    (mid : CellLines) × IsCellAdded key c.0 c.1 old mid × AreCellsAdded key cs mid new
 
 -- the row of this key, which had no cells, has these
 abbrev pub IsRefilled : LineKey → CellLine → CellLines → CellLines → Type 0

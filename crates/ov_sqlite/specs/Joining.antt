@@ -11,24 +11,24 @@ use Rattle.ov_keeper.specs.Views.{cell_entry}
 use Rattle.ov_tables.specs.Format.{row_key, cell_of}
 
 -- the name of a column, and the body of a cell
-abbrev pub Entry : Type 0
-Entry = List ℕ × List ℕ
+abbrev pub CellEntry : Type 0
+CellEntry = List ℕ × List ℕ
 
 -- a row: its key, its version, and its cells in the order in which they were read
 abbrev pub Parts : Type 0
-Parts = LineKey × (Uuid × List Entry)
+Parts = LineKey × (Uuid × List CellEntry)
 
 -- the parts of a row as the code has them
 abbrev pub line_parts : CellLine → Parts
 line_parts line = ((line.table, line.id), (line.version, map cell_entry line.cells.items))
 
 -- the cells of this key among the rows of `cell`
-abbrev pub entries_of : List Row → LineKey → List Entry
+abbrev pub entries_of : List Row → LineKey → List CellEntry
 entries_of cells key =
     map (λ c. (c.column, c.body)) (filter (λ c. same_key c.key key) (map cell_of cells))
 
 -- the cell that a row is
-abbrev pub entry_in : Row → Entry
+abbrev pub entry_in : Row → CellEntry
 entry_in x = (bytes (column x 3), bytes (column x 4))
 
 -- a head with its cells
@@ -36,7 +36,7 @@ abbrev pub head_parts : List Row → Row → Parts
 head_parts cells h = (row_key h, (bytes (column h 3), entries_of cells (row_key h)))
 
 -- the row at a place has one more cell
-abbrev pub with_cell : ℕ → Entry → List Parts → List Parts
+abbrev pub with_cell : ℕ → CellEntry → List Parts → List Parts
 with_cell n e [] = []
 with_cell zero e (p ∷ ps) = (p.0, (p.1.0, p.1.1 ++ e ∷ [])) ∷ ps
 with_cell (suc n) e (p ∷ ps) = p ∷ with_cell n e ps

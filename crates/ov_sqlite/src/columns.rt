@@ -6,10 +6,7 @@ ghost use Rattle.sqlite_value.specs.Order.{bytes};
 ghost use Rattle.sqlite.specs.Order.{column};
 
 use crate::value::{blob_at, number_at, text_at, uuid_at};
-use ov_base::{Bytes, Text};
-use ov_keeper::{Cell, CellLine, Line};
 use sqlite::Row;
-use std::alloc::{AllocError, Global};
 use uuid::Uuid;
 
 /// The key of a row: its table's name, and its identifier.

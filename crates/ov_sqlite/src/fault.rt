@@ -1,4 +1,4 @@
-//! Which fault an error of a call on a connection is.
+//! Maps errors of a connection to faults.
 
 ghost use Rattle.std.specs.Prelude.{◌≡◌, ◌⊎◌, ◌≢◌, false, IfSome};
 ghost use Rattle.sqlite.specs.State.{HasCleanDisk, Survives, KeepsCommit, IsUnchanged};

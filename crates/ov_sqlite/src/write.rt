@@ -10,8 +10,8 @@ ghost use Rattle.ov_keeper.specs.Views.{cell_entry, cells_view, cell_line_entry}
 ghost use Rattle.ov_keeper.specs.Views.{change_view, changes_view};
 ghost use Rattle.ov_tables.specs.WriteError.{IsBefore};
 ghost use Rattle.ov_tables.specs.Holding.{MayHoldCells};
-ghost use Rattle.ov_sqlite.specs.Changing.{Makes, Becomes, IsEmptied, IsBegun, IsAdded};
-ghost use Rattle.ov_sqlite.specs.Changing.{AreAdded, IsRefilled, IsRefusal};
+ghost use Rattle.ov_sqlite.specs.Changing.{MakesRows, Becomes, IsEmptied, IsRowBegun, IsCellAdded};
+ghost use Rattle.ov_sqlite.specs.Changing.{AreCellsAdded, IsRefilled, IsRefusal};
 ghost use Rattle.ov_sqlite.specs.Changing.{MayHave, MayBeEmpty, Stores, IsCommitImage};
 ghost use Rattle.ov_tables.specs.Inside.{DoesInside, DoesInsideIf, WasOpenInside, GoesOnInside};
 ghost use Rattle.ov_tables.specs.Inside.{CommitsNothing};
@@ -26,7 +26,7 @@ use uuid::Uuid;
 /// Removes the cells of the row of this key.
 fn remove_cells<S: Alter>(tx: &mut Transaction<'_, S>, table: &str, id: Uuid) -> Result<(), Error>
     ensures same_reference { tx.new.conn.ghost_name ≡ tx.old.conn.ghost_name }
-    ensures ok { DoesInside (λ text. Makes text (IsEmptied (table.now, id)))
+    ensures ok { DoesInside (λ text. MakesRows text (IsEmptied (table.now, id)))
         (state S.Store tx.old.conn.now) (state S.Store tx.new.conn.now) result }
     ensures opened { WasOpenInside (state S.Store tx.old.conn.now)
         (state S.Store tx.new.conn.now) result }
@@ -48,7 +48,7 @@ fn remove_cells<S: Alter>(tx: &mut Transaction<'_, S>, table: &str, id: Uuid) ->
 fn remove_head<S: Alter>(tx: &mut Transaction<'_, S>, table: &str, id: Uuid) -> Result<(), Error>
     ensures same_reference { tx.new.conn.ghost_name ≡ tx.old.conn.ghost_name }
     ensures ok { DoesInsideIf (MayBeEmpty (table.now, id))
-        (λ text. Makes text (Becomes (λ m. remove m (table.now, id))))
+        (λ text. MakesRows text (Becomes (λ m. remove m (table.now, id))))
         (state S.Store tx.old.conn.now) (state S.Store tx.new.conn.now) result }
     ensures goes_on { GoesOnInside (state S.Store tx.old.conn.now)
         (state S.Store tx.new.conn.now) result }
@@ -67,7 +67,7 @@ fn remove_head<S: Alter>(tx: &mut Transaction<'_, S>, table: &str, id: Uuid) -> 
 /// Removes the row of this key with all its cells.
 fn remove_row<S: Alter>(tx: &mut Transaction<'_, S>, table: &str, id: Uuid) -> Result<(), Error>
     ensures same_reference { tx.new.conn.ghost_name ≡ tx.old.conn.ghost_name }
-    ensures ok { DoesInside (λ text. Makes text (Becomes (λ m. remove m (table.now, id))))
+    ensures ok { DoesInside (λ text. MakesRows text (Becomes (λ m. remove m (table.now, id))))
         (state S.Store tx.old.conn.now) (state S.Store tx.new.conn.now) result }
     ensures opened { WasOpenInside (state S.Store tx.old.conn.now)
         (state S.Store tx.new.conn.now) result }
@@ -92,8 +92,8 @@ fn id_bytes(id: &Uuid) -> &[u8]
 /// Adds the head of a row that is not there. SQLite refuses a second head of one key; then nothing has changed.
 fn insert_head<S: Alter>(tx: &mut Transaction<'_, S>, line: &CellLine) -> Result<(), Error>
     ensures same_reference { tx.new.conn.ghost_name ≡ tx.old.conn.ghost_name }
-    ensures ok { DoesInside (λ text. Makes text
-        (IsBegun (line.now.table, line.now.id) line.now.version))
+    ensures ok { DoesInside (λ text. MakesRows text
+        (IsRowBegun (line.now.table, line.now.id) line.now.version))
         (state S.Store tx.old.conn.now) (state S.Store tx.new.conn.now) result }
     ensures refused { HasCleanDisk (state S.Store tx.new.conn.now)
         → IsTrue (state S.Store tx.old.conn.now).in_transaction
@@ -124,7 +124,8 @@ fn insert_cell<S: Alter>(
 ) -> Result<(), Error>
     ensures same_reference { tx.new.conn.ghost_name ≡ tx.old.conn.ghost_name }
     ensures ok { DoesInsideIf (MayHave (line.now.table, line.now.id) (λ _. Unit {0}))
-        (λ text. Makes text (IsAdded (line.now.table, line.now.id) cell.now.column cell.now.body))
+        (λ text. MakesRows text
+        (IsCellAdded (line.now.table, line.now.id) cell.now.column cell.now.body))
         (state S.Store tx.old.conn.now) (state S.Store tx.new.conn.now) result }
     ensures goes_on { GoesOnInside (state S.Store tx.old.conn.now)
         (state S.Store tx.new.conn.now) result }
@@ -156,7 +157,7 @@ fn insert_four<S: Alter>(
 ) -> Result<(), Error>
     ensures same_reference { tx.new.conn.ghost_name ≡ tx.old.conn.ghost_name }
     ensures ok { DoesInsideIf (MayHave (line.now.table, line.now.id) (λ _. Unit {0}))
-        (λ text. Makes text (AreAdded (line.now.table, line.now.id)
+        (λ text. MakesRows text (AreCellsAdded (line.now.table, line.now.id)
         (cell_entry a.now ∷ cell_entry b.now ∷ cell_entry c.now ∷ cell_entry d.now ∷ [])))
         (state S.Store tx.old.conn.now) (state S.Store tx.new.conn.now) result }
     ensures goes_on { GoesOnInside (state S.Store tx.old.conn.now)
@@ -192,7 +193,8 @@ fn insert_each<S: Alter>(
 ) -> Result<(), Error>
     ensures same_reference { tx.new.conn.ghost_name ≡ tx.old.conn.ghost_name }
     ensures ok { DoesInsideIf (MayHave (line.now.table, line.now.id) (λ _. Unit {0}))
-        (λ text. Makes text (AreAdded (line.now.table, line.now.id) (map cell_entry cells.now)))
+        (λ text. MakesRows text
+        (AreCellsAdded (line.now.table, line.now.id) (map cell_entry cells.now)))
         (state S.Store tx.old.conn.now) (state S.Store tx.new.conn.now) result }
     ensures goes_on { GoesOnInside (state S.Store tx.old.conn.now)
         (state S.Store tx.new.conn.now) result }
@@ -211,7 +213,7 @@ fn insert_cells<S: Alter>(tx: &mut Transaction<'_, S>, line: &CellLine) -> Resul
     ensures same_reference { tx.new.conn.ghost_name ≡ tx.old.conn.ghost_name }
     ensures ok { DoesInsideIf (MayHave (line.now.table, line.now.id)
         (λ l. l ≡ (line.now.version, empty)))
-        (λ text. Makes text (IsRefilled
+        (λ text. MakesRows text (IsRefilled
         (line.now.table, line.now.id) (line.now.version, cells_view line.now.cells.items)))
         (state S.Store tx.old.conn.now) (state S.Store tx.new.conn.now) result }
     ensures goes_on { GoesOnInside (state S.Store tx.old.conn.now)
@@ -239,7 +241,7 @@ fn insert_cells<S: Alter>(tx: &mut Transaction<'_, S>, line: &CellLine) -> Resul
 /// Removes the row of this key with all its cells, if there is one, and puts this one in its place.
 fn replace_row<S: Alter>(tx: &mut Transaction<'_, S>, line: &CellLine) -> Result<(), Error>
     ensures same_reference { tx.new.conn.ghost_name ≡ tx.old.conn.ghost_name }
-    ensures ok { DoesInside (λ text. Makes text (Becomes
+    ensures ok { DoesInside (λ text. MakesRows text (Becomes
         (λ m. insert m (cell_line_entry line.now).0 (cell_line_entry line.now).1)))
         (state S.Store tx.old.conn.now) (state S.Store tx.new.conn.now) result }
     ensures opened { WasOpenInside (state S.Store tx.old.conn.now)
@@ -258,7 +260,7 @@ fn replace_row<S: Alter>(tx: &mut Transaction<'_, S>, line: &CellLine) -> Result
 /// Puts a row in place of the one with its key. A new row takes only what adds it: where SQLite takes its head, there was none.
 fn put_row<S: Alter>(tx: &mut Transaction<'_, S>, line: &CellLine) -> Result<(), Error>
     ensures same_reference { tx.new.conn.ghost_name ≡ tx.old.conn.ghost_name }
-    ensures ok { DoesInside (λ text. Makes text (Becomes
+    ensures ok { DoesInside (λ text. MakesRows text (Becomes
         (λ m. insert m (cell_line_entry line.now).0 (cell_line_entry line.now).1)))
         (state S.Store tx.old.conn.now) (state S.Store tx.new.conn.now) result }
     ensures opened { WasOpenInside (state S.Store tx.old.conn.now)
@@ -278,7 +280,7 @@ fn put_row<S: Alter>(tx: &mut Transaction<'_, S>, line: &CellLine) -> Result<(),
 
 fn apply<S: Alter>(tx: &mut Transaction<'_, S>, change: &Change) -> Result<(), Error>
     ensures same_reference { tx.new.conn.ghost_name ≡ tx.old.conn.ghost_name }
-    ensures ok { DoesInside (λ text. Makes text (Becomes
+    ensures ok { DoesInside (λ text. MakesRows text (Becomes
         (after_cell_change (change_view change.now))))
         (state S.Store tx.old.conn.now) (state S.Store tx.new.conn.now) result }
     ensures opened { WasOpenInside (state S.Store tx.old.conn.now)
@@ -300,7 +302,7 @@ pub(crate) fn apply_all<S: Alter>(
     changes: &[Change],
 ) -> Result<(), Error>
     ensures same_reference { tx.new.conn.ghost_name ≡ tx.old.conn.ghost_name }
-    ensures ok { DoesInside (λ text. Makes text (Becomes
+    ensures ok { DoesInside (λ text. MakesRows text (Becomes
         (after_cell_changes (changes_view changes.now))))
         (state S.Store tx.old.conn.now) (state S.Store tx.new.conn.now) result }
     ensures opened { HasCleanDisk (state S.Store tx.new.conn.now)

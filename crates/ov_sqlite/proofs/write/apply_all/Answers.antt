@@ -1,6 +1,6 @@
 use Rattle.std.proofs.Common.{◌≡◌, ◌+◌, ap, sym, refl, subst, arith, take, ◌∙◌}
 use Rattle.std.proofs.lemmas.List.{take_all}
-use Rattle.ov_sqlite.specs.Changing.{Makes, Becomes}
+use Rattle.ov_sqlite.specs.Changing.{MakesRows, Becomes}
 use Rattle.sqlite.specs.State.{HasCleanDisk}
 use Rattle.sqlite.specs.Held.{state}
 use Rattle.ov_specs.specs.rows.Cells.{after_cell_changes, after_cell_change}
@@ -55,4 +55,4 @@ returns-clause-ok g c clean mode text may =
     let old = state g.S.Store c.args.tx.now.conn.now in
     let new = state g.S.Store c.loop-change.tx.conn.now in
     let whole : take i all ≡ all = take_all i all (omega (arith, c.loop-change-test.false)) in
-    subst (λ changes. Makes text (Becomes (after_cell_changes (changes_view changes))) old new) whole (c.loop-change.invariant.makes clean mode text may)
+    subst (λ changes. MakesRows text (Becomes (after_cell_changes (changes_view changes))) old new) whole (c.loop-change.invariant.makes clean mode text may)

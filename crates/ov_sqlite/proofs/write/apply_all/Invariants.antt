@@ -5,7 +5,7 @@ use Rattle.std.specs.Prelude.{List, ℕ}
 use Rattle.ov_specs.specs.rows.Cells.{after_cell_changes}
 use Rattle.ov_keeper.specs.Views.{changes_view}
 use Rattle.ov_tables.specs.Holding.{MayHoldCells}
-use Rattle.ov_sqlite.specs.Changing.{Makes, Becomes}
+use Rattle.ov_sqlite.specs.Changing.{MakesRows, Becomes}
 use Rattle.ov_sqlite.proofs.write.apply_all.Given as goal
 
 abbrev pub invariant-loop-change : goal.invariant-loop-change
@@ -18,5 +18,5 @@ invariant-loop-change g l =
       goes_on : HasCleanDisk now → IsTrue old.in_transaction → IsTrue now.in_transaction;
       kept : HasCleanDisk now → IsTrue old.in_transaction → KeepsCommit old now;
       opened : HasCleanDisk now → IsTrue old.in_transaction → 0 < l.change-index → IsTrue old.is_open;
-      makes : HasCleanDisk now → IsTrue old.in_transaction → (text : List ℕ) → MayHoldCells text old → Makes text (Becomes (after_cell_changes (changes_view (take l.change-index l.changes)))) old now;
+      makes : HasCleanDisk now → IsTrue old.in_transaction → (text : List ℕ) → MayHoldCells text old → MakesRows text (Becomes (after_cell_changes (changes_view (take l.change-index l.changes)))) old now;
     }

@@ -6,7 +6,7 @@ use Rattle.sqlite.specs.State.{HasCleanDisk}
 use Rattle.sqlite.specs.Held.{state}
 use Rattle.ov_specs.specs.rows.Lines.{LineKey}
 use Rattle.ov_keeper.specs.Views.{cell_entry, cells_view}
-use Rattle.ov_sqlite.specs.Changing.{Makes, AreAdded, IsRefilled, MayHave}
+use Rattle.ov_sqlite.specs.Changing.{MakesRows, AreCellsAdded, IsRefilled, MayHave}
 use Rattle.ov_sqlite.proofs.RunLemmas.{makes_then}
 use Rattle.ov_tables.proofs.KeepLemmas.{on_ok, keeps_then, nothing_then}
 use Rattle.ov_sqlite.proofs.ManyLemmas.{added_then, may_still, refilled, four_more}
@@ -39,13 +39,13 @@ loop-done-preserved g c =
           keeps_then _ _ _ (c.loop-done.invariant.kept early mode) (c.insert_four.ensures.kept clean (c.loop-done.invariant.goes_on early mode));
       makes = λ clean mode text may there.
           let early : HasCleanDisk mid = omega (arith, c.insert_four.ensures.survives.clean) in
-          let one : Makes text (AreAdded k (map cell_entry (take n all))) old mid = c.loop-done.invariant.makes early mode text may there in
-          let two : Makes text (AreAdded k four) mid new = c.in_ok-insert_four.ensures.ok clean one.mode text one.stored (may_still text k _ old mid one there) in
+          let one : MakesRows text (AreCellsAdded k (map cell_entry (take n all))) old mid = c.loop-done.invariant.makes early mode text may there in
+          let two : MakesRows text (AreCellsAdded k four) mid new = c.in_ok-insert_four.ensures.ok clean one.mode text one.stored (may_still text k _ old mid one there) in
           let more : map cell_entry (take (n + 4) all) ≡ map cell_entry (take n all) ++ four =
           ap (map cell_entry) (four_more all n p q r s within (at n p c.index-cells-done.is) (at (n + 1) q c.index-cells-done-in-loop-done.is) (at (n + 2) r c.index-cells-done-in-loop-done-2.is) (at (n + 3) s c.index-cells-done-in-loop-done-3.is))
           ∙ map-append cell_entry (take n all) (p ∷ q ∷ r ∷ s ∷ []) in
-          subst (λ es. Makes text (AreAdded k es) old new) (sym more)
-          (makes_then text (AreAdded k (map cell_entry (take n all))) (AreAdded k four) (AreAdded k (map cell_entry (take n all) ++ four)) old mid new
+          subst (λ es. MakesRows text (AreCellsAdded k es) old new) (sym more)
+          (makes_then text (AreCellsAdded k (map cell_entry (take n all))) (AreCellsAdded k four) (AreCellsAdded k (map cell_entry (take n all) ++ four)) old mid new
           (added_then k (map cell_entry (take n all)) four) one two);
     }
 
@@ -60,10 +60,10 @@ returns-clause-ok g c clean mode text may start =
     let new = state g.S.Store c.insert_each.new.tx.conn.now in
     let early : HasCleanDisk mid = omega (arith, c.insert_each.ensures.survives.clean) in
     let there : MayHave k (λ _. Unit {0}) old = λ up. ((start up).0, (start up).1, tt) in
-    let one : Makes text (AreAdded k (map cell_entry (take n all))) old mid = c.loop-done.invariant.makes early mode text may there in
+    let one : MakesRows text (AreCellsAdded k (map cell_entry (take n all))) old mid = c.loop-done.invariant.makes early mode text may there in
     let left : take (length all - n) (drop n all) ≡ drop n all = take_all _ (drop n all) (omega (arith, length-drop n all)) in
     let rest = (rw (c.as_slice-cells.ensures.value, left) at c.insert_each.ensures.ok) in
     let whole : map cell_entry (take n all) ++ map cell_entry (drop n all) ≡ map cell_entry all = sym (map-append cell_entry (take n all) (drop n all)) ∙ ap (map cell_entry) (take-append-drop n all) in
     on_ok c.insert_each.result (rest clean one.mode text one.stored (may_still text k _ old mid one there))
-    (λ two. makes_then text (AreAdded k (map cell_entry (take n all))) (AreAdded k (map cell_entry (drop n all))) (IsRefilled k (line.version, cells_view all)) old mid new
+    (λ two. makes_then text (AreCellsAdded k (map cell_entry (take n all))) (AreCellsAdded k (map cell_entry (drop n all))) (IsRefilled k (line.version, cells_view all)) old mid new
     (λ a b d first then. subst (λ es. IsRefilled k (line.version, Rattle.std.specs.FinMap.from_entries es) a d) whole (refilled k line.version _ a d (added_then k _ _ a b d first then))) one two)

@@ -4,7 +4,7 @@ use Rattle.sqlite.specs.State.{HasCleanDisk, Survives, KeepsCommit}
 use Rattle.sqlite.specs.Held.{state}
 use Rattle.ov_keeper.specs.Views.{cell_entry}
 use Rattle.ov_tables.specs.Holding.{MayHoldCells}
-use Rattle.ov_sqlite.specs.Changing.{MayHave, Makes, AreAdded}
+use Rattle.ov_sqlite.specs.Changing.{MayHave, MakesRows, AreCellsAdded}
 use Rattle.ov_sqlite.proofs.write.insert_cells.Given as goal
 
 abbrev pub invariant-loop-done : goal.invariant-loop-done
@@ -18,7 +18,7 @@ invariant-loop-done g l =
       goes_on : HasCleanDisk now → IsTrue old.in_transaction → IsTrue now.in_transaction;
       kept : HasCleanDisk now → IsTrue old.in_transaction → KeepsCommit old now;
       makes : HasCleanDisk now → IsTrue old.in_transaction → (text : List ℕ) → MayHoldCells text old → MayHave (l.fn.line.table, l.fn.line.id) (λ _. Unit {0}) old
-          → Makes text (AreAdded (l.fn.line.table, l.fn.line.id) (map cell_entry (take l.done l.fn.line.cells.items))) old now;
+          → MakesRows text (AreCellsAdded (l.fn.line.table, l.fn.line.id) (map cell_entry (take l.done l.fn.line.cells.items))) old now;
     }
 
 abbrev pub decreases-loop-done : goal.decreases-loop-done

@@ -4,7 +4,7 @@ use Rattle.sqlite.specs.State.{HasCleanDisk}
 use Rattle.sqlite.specs.Held.{state}
 use Rattle.ov_specs.specs.rows.Lines.{LineKey}
 use Rattle.ov_keeper.specs.Views.{cell_entry}
-use Rattle.ov_sqlite.specs.Changing.{Makes, AreAdded, IsAdded}
+use Rattle.ov_sqlite.specs.Changing.{MakesRows, AreCellsAdded, IsCellAdded}
 use Rattle.ov_sqlite.proofs.NumberLemmas.{taken_more}
 use Rattle.ov_sqlite.proofs.RunLemmas.{makes_none, makes_then}
 use Rattle.ov_tables.proofs.KeepLemmas.{keeps_now, keeps_then, nothing_now, nothing_then}
@@ -39,12 +39,12 @@ loop-cell-preserved g c =
           keeps_then _ _ _ (c.loop-cell.invariant.kept early mode) (c.insert_cell.ensures.kept clean (c.loop-cell.invariant.goes_on early mode));
       makes = λ clean mode text may there.
           let early : HasCleanDisk mid = omega (arith, c.insert_cell.ensures.survives.clean) in
-          let one : Makes text (AreAdded k (map cell_entry (take i all))) old mid = c.loop-cell.invariant.makes early mode text may there in
-          let two : Makes text (IsAdded k x.column x.body) mid new = c.in_ok-insert_cell.ensures.ok clean one.mode text one.stored (may_still text k _ old mid one there) in
+          let one : MakesRows text (AreCellsAdded k (map cell_entry (take i all))) old mid = c.loop-cell.invariant.makes early mode text may there in
+          let two : MakesRows text (IsCellAdded k x.column x.body) mid new = c.in_ok-insert_cell.ensures.ok clean one.mode text one.stored (may_still text k _ old mid one there) in
           let more : map cell_entry (take (i + 1) all) ≡ map cell_entry (take i all) ++ cell_entry x ∷ [] =
           ap (map cell_entry) (taken_more all i x c.loop-cell-test.true c.cell-item.is) ∙ map-append cell_entry (take i all) (x ∷ []) in
-          subst (λ es. Makes text (AreAdded k es) old new) (sym more)
-          (makes_then text (AreAdded k (map cell_entry (take i all))) (IsAdded k x.column x.body) (AreAdded k (map cell_entry (take i all) ++ cell_entry x ∷ [])) old mid new
+          subst (λ es. MakesRows text (AreCellsAdded k es) old new) (sym more)
+          (makes_then text (AreCellsAdded k (map cell_entry (take i all))) (IsCellAdded k x.column x.body) (AreCellsAdded k (map cell_entry (take i all) ++ cell_entry x ∷ [])) old mid new
           (λ a b d first then. added_then k (map cell_entry (take i all)) (cell_entry x ∷ []) a b d first (d, then, refl)) one two);
     }
 
@@ -62,4 +62,4 @@ returns-clause-ok g c clean mode text may there =
     let old = state g.S.Store c.args.tx.now.conn.now in
     let new = state g.S.Store c.loop-cell.tx.conn.now in
     let whole : take i all ≡ all = take_all i all (omega (arith, c.loop-cell-test.false)) in
-    subst (λ cells. Makes text (AreAdded (line.table, line.id) (map cell_entry cells)) old new) whole (c.loop-cell.invariant.makes clean mode text may there)
+    subst (λ cells. MakesRows text (AreCellsAdded (line.table, line.id) (map cell_entry cells)) old new) whole (c.loop-cell.invariant.makes clean mode text may there)

@@ -4,7 +4,7 @@ use Rattle.sqlite.specs.State.{HasCleanDisk, Survives, KeepsCommit}
 use Rattle.sqlite.specs.Held.{state}
 use Rattle.ov_keeper.specs.Views.{cell_entry}
 use Rattle.ov_tables.specs.Holding.{MayHoldCells}
-use Rattle.ov_sqlite.specs.Changing.{MayHave, Makes, AreAdded}
+use Rattle.ov_sqlite.specs.Changing.{MayHave, MakesRows, AreCellsAdded}
 use Rattle.ov_sqlite.proofs.write.insert_each.Given as goal
 
 abbrev pub invariant-loop-cell : goal.invariant-loop-cell
@@ -17,5 +17,5 @@ invariant-loop-cell g l =
       goes_on : HasCleanDisk now → IsTrue old.in_transaction → IsTrue now.in_transaction;
       kept : HasCleanDisk now → IsTrue old.in_transaction → KeepsCommit old now;
       makes : HasCleanDisk now → IsTrue old.in_transaction → (text : List ℕ) → MayHoldCells text old → MayHave (l.fn.line.table, l.fn.line.id) (λ _. Unit {0}) old
-          → Makes text (AreAdded (l.fn.line.table, l.fn.line.id) (map cell_entry (take l.cell-index l.fn.cells))) old now;
+          → MakesRows text (AreCellsAdded (l.fn.line.table, l.fn.line.id) (map cell_entry (take l.cell-index l.fn.cells))) old now;
     }

@@ -7,7 +7,7 @@ use Rattle.ov_specs.specs.rows.Lines.{LineKey}
 use Rattle.ov_specs.specs.rows.Cells.{CellLines}
 use Rattle.ov_keeper.specs.Views.{cells_view}
 use Rattle.ov_tables.specs.Format.{stored_cells}
-use Rattle.ov_sqlite.specs.Changing.{Becomes, IsBegun, IsRefilled, Makes}
+use Rattle.ov_sqlite.specs.Changing.{Becomes, IsRowBegun, IsRefilled, MakesRows}
 use Rattle.ov_tables.proofs.KeepLemmas.{on_ok}
 use Rattle.ov_sqlite.proofs.RunLemmas.{makes_then, may_same, makes_same}
 use Rattle.ov_sqlite.proofs.RefillLemmas.{put_found, put_new}
@@ -23,10 +23,10 @@ returns-in-Ok-clause-ok g c clean mode text may =
     let v = line.version in
     let all = cells_view line.cells.items in
     let early : HasCleanDisk mid = omega (arith, c.insert_cells.ensures.survives.clean) in
-    let head : Makes text (IsBegun k v) old mid = c.in-Ok.ensures.ok early mode text may in
+    let head : MakesRows text (IsRowBegun k v) old mid = c.in-Ok.ensures.ok early mode text may in
     let there = ap (λ (m : CellLines). get m k) head.lines_are.1 ∙ put_found (stored_cells old.now.trees) k (v, empty) in
     on_ok c.insert_cells.result (c.insert_cells.ensures.ok clean head.mode text head.stored (λ _. ((v, empty), there, refl)))
-    (makes_then text (IsBegun k v) (IsRefilled k (v, all)) (Becomes (λ m. insert m k (v, all))) old mid new (put_new k v all) head)
+    (makes_then text (IsRowBegun k v) (IsRefilled k (v, all)) (Becomes (λ m. insert m k (v, all))) old mid new (put_new k v all) head)
 
 pub returns-in-Err-SqliteFailure-ConstraintViolation-clause-ok : goal.returns-in-Err-SqliteFailure-ConstraintViolation-clause-ok
 returns-in-Err-SqliteFailure-ConstraintViolation-clause-ok g c clean mode text may =
