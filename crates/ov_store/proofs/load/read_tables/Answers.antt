@@ -14,3 +14,6 @@ returns-clause-ok g c clean may =
 
 pub returns-clause-told : goal.returns-clause-told
 returns-clause-told g c = refusals_told Testing c.read_all.result
+
+pub returns-clause-format : goal.returns-clause-format
+returns-clause-format g c clean has err text = (c.read_all.ensures.reads.format clean (λ _. has) err).1 text
