@@ -47,7 +47,7 @@ fn carried_columns(
             named.insert(String::from_str(alloc, name.as_str())?, datum)?;
         }
     }
-    Columns::sharing(alloc, new.names_of_row(), named)
+    Columns::sharing(alloc, new.row_shape(), named)
 }
 
 /// The row of this key with these columns: it keeps its version if its columns are the same as before, else it gets this one

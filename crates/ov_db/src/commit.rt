@@ -13,7 +13,8 @@ ghost use Rattle.ov_db.specs.Stored.{AreCellsRead, IsPutRead, ArePutRead};
 
 use crate::cells::cells_of;
 use crate::delta::Delta;
-use ov_base::{ColumnNames, Text};
+use ov_atoms::RowShape;
+use ov_base::Text;
 use ov_keeper::{CellLine, Change};
 use ov_rows::{Columns, NamedValues, Row, RowKey, Rows, TableRows};
 use std::alloc::{AllocError, Global};
@@ -109,7 +110,7 @@ pub(crate) fn place<'a>(
     ensures same { OnOk result (IsSameBeside delta.now rows.old rows.new) }
     ensures placed { OnOk result (HasPlacesFor delta.now rows.new) }
 {
-    let nothing = ColumnNames::new(alloc, Vec::new(alloc))?;
+    let nothing = RowShape::new(alloc, Vec::new(alloc), Vec::new(alloc))?;
     for (key, row) in &delta.changes {
         place_one(alloc, rows, key, row, &nothing, added)?;
     }
@@ -122,10 +123,10 @@ fn place_one<'a>(
     rows: &mut Rows,
     key: &'a RowKey,
     row: &Option<Row>,
-    nothing: &ColumnNames,
+    nothing: &RowShape,
     added: &mut Vec<&'a RowKey>,
 ) -> Result<(), AllocError>
-    requires { nothing.now ≡ [] }
+    requires { nothing.now.names ≡ [] }
     ensures added { without_rows (lent_keys added.new.items) rows.new
         ≡ without_rows (lent_keys added.old.items) rows.old }
     ensures same { (other : LineKey) → eq_by_cmp line_cmp other key.now ≡ false
@@ -145,11 +146,11 @@ fn place_at<'a>(
     alloc: Global,
     rows: &mut Rows,
     key: &'a RowKey,
-    nothing: &ColumnNames,
+    nothing: &RowShape,
     added: &mut Vec<&'a RowKey>,
 ) -> Result<(), AllocError>
     requires absent { contains_key rows.old key.now ≡ false }
-    requires nothing { nothing.now ≡ [] }
+    requires nothing { nothing.now.names ≡ [] }
     ensures added { without_rows (lent_keys added.new.items) rows.new
         ≡ without_rows (lent_keys added.old.items) rows.old }
     ensures same { (other : LineKey) → eq_by_cmp line_cmp other key.now ≡ false

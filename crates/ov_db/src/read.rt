@@ -72,7 +72,7 @@ fn row_by_guess(
     ensures { IfOk result (λ row. row_of_body table.now line.now.version (OneText line.now.body)
         ≡ Some row) }
 {
-    let columns = reader.columns(alloc, table.names_of_row(), line.body.as_slice())?;
+    let columns = reader.columns(alloc, table.row_shape(), line.body.as_slice())?;
     if !are_values_for(table, columns.values()) {
         return Err(AtomFault::Syntax);
     }
@@ -131,7 +131,7 @@ fn columns_of(alloc: Global, table: &Table, text: &[u8]) -> Result<Columns, Open
 {
     let body = tree_of(alloc, text)?;
     let values = values_of(alloc, table, &body)?;
-    Ok(Columns::of(alloc, table.names_of_row(), values)?)
+    Ok(Columns::of(alloc, table.row_shape(), values)?)
 }
 
 /// The values that the body has for all columns of the table except `_uuid` and `_version`.

@@ -11,8 +11,7 @@ ghost use Rattle.ov_db.specs.Stored.{value_stored};
 use crate::cells::{are_cells_of, are_same, body_at, cells_of};
 use crate::fault::OpenFault;
 use crate::read::{are_values_for, tree_of, value_in};
-use ov_atoms::{AtomFault, Datum};
-use ov_base::ColumnNames;
+use ov_atoms::{AtomFault, Datum, RowShape};
 use ov_keeper::{Cell, CellLine, KeepFault};
 use ov_rows::{BodyReader, Columns, NamedValues, Row};
 use ov_schema::{Column, Schema, Table, is_own};
@@ -66,7 +65,7 @@ fn cells_by_guess(
     ensures { IfOk result (λ row. row_of_body table.now line.now.version
         (OfCells (cells_view line.now.cells.items)) ≡ Some row) }
 {
-    let columns = guessed_columns(alloc, reader, table.names_of_row(), line.cells.as_slice())?;
+    let columns = guessed_columns(alloc, reader, table.row_shape(), line.cells.as_slice())?;
     if !are_values_for(table, columns.values()) {
         return Err(AtomFault::Syntax);
     }
@@ -80,16 +79,16 @@ fn cells_by_guess(
 fn guessed_columns(
     alloc: Global,
     reader: &mut BodyReader,
-    names: &ColumnNames,
+    shape: &RowShape,
     cells: &[Cell],
 ) -> Result<Columns, AtomFault>
-    requires { DoAscend names.now }
-    ensures names { IfOk result (λ columns. keys columns ≡ names.now) }
+    requires { DoAscend shape.now.names }
+    ensures names { IfOk result (λ columns. keys columns ≡ shape.now.names) }
     ensures cells { IfOk result (λ columns. cells_view cells.now ≡ cells_of columns) }
     ensures read { IfOk result (λ columns. AreCellsRead columns) }
 {
     let text = text_of_cells(alloc, cells)?;
-    let columns = reader.columns(alloc, names, text.as_slice())?;
+    let columns = reader.columns(alloc, shape, text.as_slice())?;
     if are_cells_of(alloc, &columns, cells)? {
         Ok(columns)
     } else {
@@ -139,7 +138,7 @@ fn columns_in_cells(alloc: Global, table: &Table, cells: &[Cell]) -> Result<Colu
         table.now) result }
 {
     let values = values_in_cells(alloc, table, cells)?;
-    Ok(Columns::of(alloc, table.names_of_row(), values)?)
+    Ok(Columns::of(alloc, table.row_shape(), values)?)
 }
 
 /// The values of the cells of all columns of the table except those that every row has by itself.

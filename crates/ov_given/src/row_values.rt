@@ -161,7 +161,7 @@ pub fn new_row<N: Names>(
         (insert.new_row (N.names names.now) table.now (members_view members.now.entries)) result }
 {
     let values = new_values(alloc, table, members, names)?;
-    Ok(Columns::sharing(alloc, table.names_of_row(), values)?)
+    Ok(Columns::sharing(alloc, table.row_shape(), values)?)
 }
 
 /// The columns of a row with the given values in their places (RFC 7047, 5.2.3). Their names stay shared.

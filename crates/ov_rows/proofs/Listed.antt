@@ -5,7 +5,7 @@ use Rattle.std.specs.FinMap.Entries.{below_all}
 use Rattle.ov_specs.specs.schema.SchemaTypes.{name_cmp}
 use Rattle.ov_specs.specs.values.Value.{Datum}
 use Rattle.ov_specs.proofs.laws.Truths.{both_hold, left_holds, right_holds}
-use Rattle.ov_rows.specs.Named.{alone, columns_at, DoAscend}
+use Rattle.ov_rows.specs.Named.{alone, columns_at, DoAscend, IsListed}
 use Rattle.ov_rows.proofs.Names.{entries-columns_at}
 
 -- names ascend whatever their values are
@@ -30,9 +30,9 @@ values-zip [] (v ∷ vs) same = absurd (omega arith)
 values-zip (n ∷ names) [] same = absurd (omega arith)
 values-zip (n ∷ names) (v ∷ vs) same = ap (λ ws. v ∷ ws) (values-zip names vs (omega arith))
 
-module _ (names : List (List ℕ)) (vs : List Datum) (h : T (is_sorted name_cmp (zip names vs))) (same : length vs ≡ length names) where
+module _ (names : List (List ℕ)) (vs : List Datum) (h : IsListed names vs) where
   pub keys-columns_at : keys (columns_at names vs) ≡ names
-  keys-columns_at = ap (map (λ e. e.0)) (entries-columns_at names vs h) ∙ names-zip names vs same
+  keys-columns_at = ap (map (λ e. e.0)) (entries-columns_at names vs h.0) ∙ names-zip names vs h.1
 
   pub values-columns_at : values (columns_at names vs) ≡ vs
-  values-columns_at = ap (map (λ e. e.1)) (entries-columns_at names vs h) ∙ values-zip names vs same
+  values-columns_at = ap (map (λ e. e.1)) (entries-columns_at names vs h.0) ∙ values-zip names vs h.1

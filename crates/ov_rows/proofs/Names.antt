@@ -16,7 +16,7 @@ use Rattle.ov_specs.specs.wire.Tree.{has_real, members_have_real}
 use Rattle.std.specs.Str.{bytes_eq}
 use Rattle.ov_specs.specs.rows.Database.{Columns, same_columns}
 use Rattle.ov_specs.specs.values.Value.{Datum, datum_cmp}
-use Rattle.ov_rows.specs.Named.{named, columns_of, columns_at}
+use Rattle.ov_rows.specs.Named.{named, columns_of, columns_at, IsListed}
 use Rattle.ov_specs.proofs.laws.Sameness.{datum-tied}
 use Rattle.ov_specs.proofs.laws.Truths.{both_hold}
 use Rattle.std.proofs.lemmas.Bool.{or_parts}
@@ -77,9 +77,6 @@ keys-named (e ∷ es) = ap (λ ns. string_bytes e.0 ∷ ns) (keys-named es)
 abbrev pub paired : List (String Global) → List Datum → List (List ℕ × Datum)
 paired names values = zip (map string_bytes names) values
 
-pub get-columns_at : (names : List (List ℕ)) (values : List Datum) (q : List ℕ) → T (is_sorted name_cmp (zip names values)) → get (columns_at names values) q ≡ find name_cmp q (zip names values)
-get-columns_at names values q h = get-from_sorted name_cmp (zip names values) q h
-
 pub entries-columns_at : (names : List (List ℕ)) (values : List Datum) → T (is_sorted name_cmp (zip names values)) → entries (columns_at names values) ≡ zip names values
 entries-columns_at names values h = entries-from_sorted name_cmp (zip names values) h
 
@@ -133,7 +130,7 @@ module _ (m : Columns) (names : List (List ℕ)) (listed : List Datum) (of_keys 
   zip-apart : zip names listed ≡ entries m
   zip-apart = (λ i. zip (of_keys i) (of_values i)) ∙ zip-entries (entries m)
 
-  pub apart-invariant : T (is_sorted name_cmp (zip names listed)) × (length listed ≡ length names)
+  pub apart-invariant : IsListed names listed
   apart-invariant = (subst (λ es. T (is_sorted name_cmp es)) (sym zip-apart) (entries_sorted m), ap length of_values ∙ as_many (entries m) ∙ ap length (sym of_keys))
 
   -- they are put together again
@@ -167,16 +164,13 @@ same-paired (x ∷ xs) (y ∷ ys) (v ∷ vs) (w ∷ ws) h k =
     shuffled (bytes_eq (string_bytes x) (string_bytes y)) (pointwise (λ a b. bytes_eq (string_bytes a) (string_bytes b)) xs ys) (eq_by_cmp datum_cmp v w) (pointwise (eq_by_cmp datum_cmp) vs ws)
     ∙ (λ i. (bytes_eq (string_bytes x) (string_bytes y) && sym (datum-tied v w) i) && same-paired xs ys vs ws (omega arith) (omega arith) i)
 
--- what is said of these lists is said of the columns that they are
-abbrev IsListed : List (List ℕ) → List Datum → Type 0
-IsListed names values = T (is_sorted name_cmp (zip names values)) × (length values ≡ length names)
-
-pub same-listed : (xs ys : List (String Global)) (vs ws : List Datum) (ns ms : List (List ℕ)) (a b : Columns) → map string_bytes xs ≡ ns → map string_bytes ys ≡ ms → IsListed ns vs → IsListed ms ws
-    → columns_at ns vs ≡ a → columns_at ms ws ≡ b → (pointwise (λ x y. bytes_eq (string_bytes x) (string_bytes y)) xs ys && pointwise (eq_by_cmp datum_cmp) vs ws) ≡ same_columns (entries a) (entries b)
-same-listed xs ys vs ws ns ms a b of_xs of_ys h k is_a is_b =
-    let left = ap (λ names. zip names vs) of_xs ∙ sym (entries-columns_at ns vs h.0) ∙ ap entries is_a in
-    let right = ap (λ names. zip names ws) of_ys ∙ sym (entries-columns_at ms ws k.0) ∙ ap entries is_b in
-    same-paired xs ys vs ws (h.1 ∙ ap length (sym of_xs)) (k.1 ∙ ap length (sym of_ys)) ∙ (λ i. same_columns (left i) (right i))
+-- names and values that are those of columns
+pub same-apart : (xs ys : List (String Global)) (vs ws : List Datum) (a b : Columns) → map string_bytes xs ≡ keys a → map string_bytes ys ≡ keys b → vs ≡ values a → ws ≡ values b
+    → (pointwise (λ x y. bytes_eq (string_bytes x) (string_bytes y)) xs ys && pointwise (eq_by_cmp datum_cmp) vs ws) ≡ same_columns (entries a) (entries b)
+same-apart xs ys vs ws a b of_xs of_ys of_vs of_ws =
+    let left = zip-apart a (map string_bytes xs) vs of_xs of_vs in
+    let right = zip-apart b (map string_bytes ys) ws of_ys of_ws in
+    same-paired xs ys vs ws (apart-invariant a (map string_bytes xs) vs of_xs of_vs).1 (apart-invariant b (map string_bytes ys) ws of_ys of_ws).1 ∙ (λ i. same_columns (left i) (right i))
 
 -- ---- members without reals
 

@@ -1,90 +1,80 @@
--- Values that are stored with marks, one column after another.
-use Rattle.std.proofs.Common.{◌≡◌, ◌≢◌, ℕ, zero, suc, ◌+◌, ◌*◌, ◌-◌, ◌/◌, ◌%◌, ◌^◌, ◌<◌, ◌≤◌, ◌==◌, List, [], ◌∷◌, ◌++◌, reverse, length, Option, Some, None, MatchOption, IfNone, option_to_list, if◌then◌else◌, true, refl, sym, ap, subst, ◌∙◌, arith}
+-- Values of which some are their columns' defaults, one column after another.
+use Rattle.std.proofs.Common.{◌≡◌, ◌≢◌, ℕ, suc, ◌+◌, ◌*◌, ◌-◌, ◌/◌, ◌%◌, ◌^◌, ◌<◌, ◌≤◌, List, [], ◌∷◌, ◌++◌, reverse, length, drop, get_or, Option, Some, None, MatchOption, IfNone, option_to_list, true, refl, sym, ap, subst, ◌∙◌, arith}
 use Rattle.std.proofs.Math.Nat.{pow-le-pow_right}
-use Rattle.std.proofs.lemmas.List.{append_assoc, reverse-append, nil_from_length}
+use Rattle.std.proofs.lemmas.List.{drop_more, reverse-append, nil_from_length}
 use Rattle.std.specs.Ordering.{eq_by_cmp}
 use Rattle.ov_specs.specs.values.Value.{Datum, datum_cmp}
 use Rattle.ov_specs.proofs.laws.DatumOrder.{datum_cmp-IsAntisymmetric}
 use Rattle.ov_specs.proofs.laws.Truths.{equal_is}
-use Rattle.ov_rows.specs.Spread.{before, spread_over, spread, values_stored}
+use Rattle.ov_rows.specs.Spread.{before, own_among, spread}
 
 -- ---- the first column
 
-marked-first : (k m : ℕ) (shared : Option Datum) (own : List Datum) → m % 2 ≡ 1 → spread_over (suc k) m shared own ≡ before shared (spread_over k (m / 2) shared own)
-marked-first k m shared [] is = rw is refl
-marked-first k m shared (datum ∷ own) is = rw is refl
+pub marked-first : (m : ℕ) (default : Datum) (defaults own : List Datum) → m % 2 ≡ 1 → spread m (default ∷ defaults) own ≡ default ∷ spread (m / 2) defaults own
+marked-first m default defaults [] is = rw is refl
+marked-first m default defaults (datum ∷ own) is = rw is refl
 
-own-first : (k m : ℕ) (shared : Option Datum) (datum : Datum) (own : List Datum) → m % 2 ≡ 0 → spread_over (suc k) m shared (datum ∷ own) ≡ datum ∷ spread_over k (m / 2) shared own
-own-first k m shared datum own is = rw is refl
+pub own-first : (m : ℕ) (default : Datum) (defaults : List Datum) (datum : Datum) (own : List Datum) → m % 2 ≡ 0 → spread m (default ∷ defaults) (datum ∷ own) ≡ datum ∷ spread (m / 2) defaults own
+own-first m default defaults datum own is = rw is refl
 
-none-first : (k m : ℕ) (shared : Option Datum) → m % 2 ≡ 0 → spread_over (suc k) m shared [] ≡ []
-none-first k m shared is = rw is refl
+pub none-first : (m : ℕ) (default : Datum) (defaults : List Datum) → m % 2 ≡ 0 → spread m (default ∷ defaults) [] ≡ []
+none-first m default defaults is = rw is refl
 
 -- ---- without marks all values are the row's own
 
-none-marked : (k : ℕ) (shared : Option Datum) (own : List Datum) → spread_over k 0 shared own ≡ own
-none-marked zero shared own = refl
-none-marked (suc k) shared [] = refl
-none-marked (suc k) shared (datum ∷ own) = ap (λ later. datum ∷ later) (none-marked k shared own)
+pub unmarked : (defaults own : List Datum) → spread 0 defaults own ≡ own
+unmarked [] own = refl
+unmarked (default ∷ defaults) [] = refl
+unmarked (default ∷ defaults) (datum ∷ own) = ap (λ later. datum ∷ later) (unmarked defaults own)
 
-pub unmarked : (shared : Option Datum) (own : List Datum) → spread 0 shared own ≡ own
-unfolding spread
-unmarked shared own = none-marked 64 shared own
+pub unmarked-among : (values : List Datum) → own_among 0 values ≡ values
+unmarked-among [] = refl
+unmarked-among (datum ∷ values) = ap (λ later. datum ∷ later) (unmarked-among values)
 
-pub unmarked-stored : (stored : List Datum) → values_stored 0 stored ≡ stored
-unmarked-stored [] = refl
-unmarked-stored (datum ∷ stored) = refl
+-- ---- the marks of values
 
-pub marked-stored : (m : ℕ) (datum : Datum) (own : List Datum) → 0 < m → values_stored m (datum ∷ own) ≡ spread m (Some datum) own
-marked-stored zero datum own some = absurd (omega arith)
-marked-stored (suc m) datum own some = refl
+-- the marks and the defaults give back the values
+abbrev pub AreMarked : ℕ → List Datum → List Datum → Type 0
+AreMarked m defaults values = spread m defaults (own_among m values) ≡ values
 
--- ---- one more column without a mark
+pub none-marked : (m : ℕ) (defaults values : List Datum) → m ≡ 0 → AreMarked m defaults values
+none-marked m defaults values none = subst (λ n. AreMarked n defaults values) (sym none) (unmarked defaults (own_among 0 values) ∙ unmarked-among values)
 
-longer : (k m : ℕ) (shared : Option Datum) (own : List Datum) → m < 2 ^ k → spread_over k m shared own ≡ spread_over (suc k) m shared own
-longer zero m shared own small =
-    let none : m ≡ 0 = omega arith in
-    sym (none-marked 1 shared own) ∙ ap (λ n. spread_over 1 n shared own) (sym none)
-longer (suc k) m shared [] small = ap (λ later. if m % 2 == 1 then before shared later else []) (longer k (m / 2) shared [] (omega arith))
-longer (suc k) m shared (datum ∷ own) small =
-    let marked = longer k (m / 2) shared (datum ∷ own) (omega arith) in
-    let unmarked = longer k (m / 2) shared own (omega arith) in
-    λ i. if m % 2 == 1 then before shared (marked i) else (datum ∷ unmarked i)
-
--- ---- the first column is taken
-
-pub take-marked : (m : ℕ) (datum : Datum) (own : List Datum) → m < 2 ^ 64 → m % 2 ≡ 1 → spread m (Some datum) own ≡ datum ∷ spread (m / 2) (Some datum) own
-unfolding spread
-take-marked m datum own small is = marked-first 63 m (Some datum) own is ∙ ap (λ later. datum ∷ later) (longer 63 (m / 2) (Some datum) own (omega arith))
-
-pub take-own : (m : ℕ) (shared : Option Datum) (datum : Datum) (own : List Datum) → m < 2 ^ 64 → m % 2 ≡ 0 → spread m shared (datum ∷ own) ≡ datum ∷ spread (m / 2) shared own
-unfolding spread
-take-own m shared datum own small is = own-first 63 m shared datum own is ∙ ap (λ later. datum ∷ later) (longer 63 (m / 2) shared own (omega arith))
-
-pub take-no_shared : (m : ℕ) (own : List Datum) → m % 2 ≡ 1 → spread m None own ≡ []
-unfolding spread
-take-no_shared m own is = marked-first 63 m None own is
-
-pub take-no_own : (m : ℕ) (shared : Option Datum) → m % 2 ≡ 0 → spread m shared [] ≡ []
-unfolding spread
-take-no_own m shared is = none-first 63 m shared is
-
--- ---- a column is put before the first
-
-pub put-marked : (m : ℕ) (datum : Datum) (own : List Datum) → m < 2 ^ 63 → spread (m * 2 + 1) (Some datum) own ≡ datum ∷ spread m (Some datum) own
-put-marked m datum own small =
+-- a column with its default comes before others
+pub more-marked : (m : ℕ) (datum : Datum) (defaults values : List Datum) → AreMarked m defaults values → AreMarked (m * 2 + 1) (datum ∷ defaults) (datum ∷ values)
+more-marked m datum defaults values rest =
     let half : (m * 2 + 1) / 2 ≡ m = omega arith in
-    take-marked (m * 2 + 1) datum own (omega arith) (omega arith) ∙ ap (λ n. datum ∷ spread n (Some datum) own) half
+    let odd : (m * 2 + 1) % 2 ≡ 1 = omega arith in
+    let among : own_among (m * 2 + 1) (datum ∷ values) ≡ own_among m values = rw odd (ap (λ n. own_among n values) half) in
+    ap (spread (m * 2 + 1) (datum ∷ defaults)) among ∙ marked-first (m * 2 + 1) datum defaults (own_among m values) odd
+    ∙ ap (λ later. datum ∷ later) (ap (λ n. spread n defaults (own_among m values)) half ∙ rest)
 
-pub put-own : (m : ℕ) (shared : Option Datum) (datum : Datum) (own : List Datum) → m < 2 ^ 63 → spread (m * 2) shared (datum ∷ own) ≡ datum ∷ spread m shared own
-put-own m shared datum own small =
+-- a column with a value of its own comes before others
+pub more-own : (m : ℕ) (default datum : Datum) (defaults values : List Datum) → AreMarked m defaults values → AreMarked (m * 2) (default ∷ defaults) (datum ∷ values)
+more-own m default datum defaults values rest =
     let half : m * 2 / 2 ≡ m = omega arith in
-    take-own (m * 2) shared datum own (omega arith) (omega arith) ∙ ap (λ n. datum ∷ spread n shared own) half
+    let even : m * 2 % 2 ≡ 0 = omega arith in
+    let among : own_among (m * 2) (datum ∷ values) ≡ datum ∷ own_among m values = rw even (ap (λ n. datum ∷ own_among n values) half) in
+    ap (spread (m * 2) (default ∷ defaults)) among ∙ own-first (m * 2) default defaults datum (own_among m values) even
+    ∙ ap (λ later. datum ∷ later) (ap (λ n. spread n defaults (own_among m values)) half ∙ rest)
 
-pub put-unmarked : (m : ℕ) (shared : Option Datum) (datum : Datum) (own : List Datum) → m ≡ 0 → spread m shared (datum ∷ own) ≡ datum ∷ spread m shared own
-put-unmarked m shared datum own none =
-    ap (λ n. spread n shared (datum ∷ own)) none ∙ unmarked shared (datum ∷ own)
-    ∙ ap (λ later. datum ∷ later) (sym (unmarked shared own) ∙ ap (λ n. spread n shared own) (sym none))
+-- the marks of the values from a place on, of which the first is the default of its column or not
+module _ (m place : ℕ) (defaults values : List Datum) (default datum : Datum) (is_default : default ≡ get_or defaults place default) (is_datum : datum ≡ get_or values place datum)
+    (known : place < length defaults) (there : place < length values) (rest : AreMarked m (drop (place + 1) defaults) (drop (place + 1) values)) where
+  from_here : (xs : List Datum) (x y : Datum) → place < length xs → x ≡ get_or xs place x → x ≡ y → y ∷ drop (place + 1) xs ≡ drop place xs
+  from_here xs x y within at is = ap (λ d. d ∷ drop (place + 1) xs) (sym is ∙ at) ∙ sym (drop_more xs place x within)
+
+  pub marked-here : datum ≡ default → AreMarked (m * 2 + 1) (drop place defaults) (drop place values)
+  marked-here same =
+      subst (λ ds. AreMarked (m * 2 + 1) ds (drop place values)) (from_here defaults default default known is_default refl)
+      (subst (λ vs. AreMarked (m * 2 + 1) (default ∷ drop (place + 1) defaults) vs) (from_here values datum default there is_datum same)
+      (more-marked m default (drop (place + 1) defaults) (drop (place + 1) values) rest))
+
+  pub own-here : AreMarked (m * 2) (drop place defaults) (drop place values)
+  own-here =
+      subst (λ ds. AreMarked (m * 2) ds (drop place values)) (from_here defaults default default known is_default refl)
+      (subst (λ vs. AreMarked (m * 2) (default ∷ drop (place + 1) defaults) vs) (from_here values datum datum there is_datum refl)
+      (more-own m default datum (drop (place + 1) defaults) (drop (place + 1) values) rest))
 
 -- ---- the bound on the marks of the columns from a place on
 
@@ -101,26 +91,10 @@ fits-half m n small =
     let power = pow-le-pow_right {n = 2} (omega arith) {i = 64 - (n + 1)} {j = 63} shorter in
     omega (arith, small, power)
 
-pub fits-none : (m n : ℕ) → 64 ≤ n → m < 2 ^ (64 - (n + 1)) → m ≡ 0
-fits-none m n many small =
-    let none : 64 - (n + 1) ≡ 0 = omega arith in
-    let below : m < 2 ^ 0 = subst (λ k. m < 2 ^ k) none small in
-    omega (arith, below)
-
-pub fits-still : (m n : ℕ) → m ≡ 0 → m < 2 ^ (64 - n)
-fits-still m n none =
+pub fits-none : (n : ℕ) → 0 < 2 ^ (64 - n)
+fits-none n =
     let power = pow-le-pow_right {n = 2} (omega arith) {i = 0} {j = 64 - n} (omega arith) in
-    omega (arith, none, power)
-
--- ---- lists whose last comes first
-
-pub reverse-last : (xs ys : List Datum) (datum : Datum) → ys ≡ xs ++ datum ∷ [] → reverse ys ≡ datum ∷ reverse xs
-reverse-last xs ys datum is = ap reverse is ∙ reverse-append xs (datum ∷ [])
-
--- the last of the values before becomes the first of those after
-pub moved : (all sooner after later : List Datum) (datum : Datum) → all ≡ sooner ++ datum ∷ [] → after ≡ datum ∷ later → sooner ++ after ≡ all ++ later
-moved all sooner after later datum is next =
-    ap (λ xs. sooner ++ xs) next ∙ sym (append_assoc sooner (datum ∷ []) later) ∙ ap (λ xs. xs ++ later) (sym is)
+    omega (arith, power)
 
 -- ---- the last of a list is taken
 
@@ -132,10 +106,11 @@ pub popped_nil : (old : List Datum) (count other : ℕ) (last : Option Datum) �
 popped_nil old count other None cases is = nil_from_length old (sym is ∙ cases.0)
 popped_nil old count other (Some last) cases is = tt
 
-pub popped : (m : ℕ) (datum : Datum) (old new : List Datum) (last : Option Datum) → m < 2 ^ 64 → m % 2 ≡ 0 → old ≡ new ++ option_to_list last → IfNone last (old ≡ [])
-    → spread m (Some datum) (reverse old) ≡ before last (spread (m / 2) (Some datum) (reverse new))
-popped m datum old new None small even is none = ap (λ xs. spread m (Some datum) (reverse xs)) none ∙ take-no_own m (Some datum) even
-popped m datum old new (Some last) small even is none = ap (spread m (Some datum)) (reverse-last new old last is) ∙ take-own m (Some datum) last (reverse new) small even
+pub popped : (m : ℕ) (default : Datum) (defaults old new : List Datum) (last : Option Datum) → m % 2 ≡ 0 → old ≡ new ++ option_to_list last → IfNone last (old ≡ [])
+    → spread m (default ∷ defaults) (reverse old) ≡ before last (spread (m / 2) defaults (reverse new))
+popped m default defaults old new None even is none = ap (λ xs. spread m (default ∷ defaults) (reverse xs)) none ∙ none-first m default defaults even
+popped m default defaults old new (Some last) even is none =
+    ap (λ xs. spread m (default ∷ defaults) (reverse xs)) is ∙ ap (spread m (default ∷ defaults)) (reverse-append new (last ∷ [])) ∙ own-first m default defaults last (reverse new) even
 
 -- ---- two equal values
 

@@ -15,7 +15,7 @@ use Rattle.ov_specs.specs.rows.Database.{Columns}
 use Rattle.ov_specs.specs.schema.SchemaTypes.{name_cmp}
 use Rattle.ov_specs.specs.values.Value.{Datum}
 use Rattle.ov_specs.proofs.laws.Names.{name_cmp_total, name_exact, same_name, same_name-is, find-first_not_later, sorted_rest}
-use Rattle.ov_rows.specs.Named.{columns_at, place_from}
+use Rattle.ov_rows.specs.Named.{columns_at, place_from, IsListed}
 
 -- ---- one after another
 
@@ -125,7 +125,7 @@ module _ (names : List (List ℕ)) (values : List Datum) (name : List ℕ) (datu
   pub place-within : place < length values
   place-within = there.within
 
-  pub set-invariant : T (is_sorted name_cmp (zip names values)) → T (is_sorted name_cmp (zip names (slice_set values place datum))) × (length (slice_set values place datum) ≡ length names)
+  pub set-invariant : T (is_sorted name_cmp (zip names values)) → IsListed names (slice_set values place datum)
   set-invariant h = (subst T (sym (sorted-set names values place datum)) h, length-set values place datum ∙ same)
 
   -- it is in the column of the name

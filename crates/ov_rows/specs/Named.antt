@@ -1,5 +1,5 @@
 -- The columns of the code as those of the definitions.
-use Rattle.std.specs.Prelude.{ℕ, ◌+◌, T, List, [], ◌∷◌, map, zip, Option, Some, None, if◌then◌else◌, String, string_bytes}
+use Rattle.std.specs.Prelude.{◌≡◌, ℕ, ◌+◌, T, List, [], ◌∷◌, length, map, zip, Option, Some, None, if◌then◌else◌, String, string_bytes}
 use Rattle.std.specs.Str.{bytes_eq}
 use Rattle.std.specs.declared.alloc.Global.{Global}
 use Rattle.std.specs.FinMap.{from_sorted, is_sorted}
@@ -31,3 +31,7 @@ alone name = (name, tt)
 -- the names ascend, and none occurs twice
 abbrev pub DoAscend : List (List ℕ) → Type 0
 DoAscend names = T (is_sorted name_cmp (map alone names))
+
+-- the names ascend, and there is a value for each
+abbrev pub IsListed : List (List ℕ) → List Datum → Type 0
+IsListed names values = T (is_sorted name_cmp (zip names values)) × (length values ≡ length names)

@@ -30,7 +30,7 @@ impl Columns {
     {
         let mut out = Writer::new(buffer);
         out.begin_object()?;
-        for (name, datum) in self.names.as_slice().iter().zip(self.values.iter()) {
+        for (name, datum) in self.names().iter().zip(self.values()) {
             put_column(&mut out, name.as_str(), datum)?;
         }
         out.end_object()?;

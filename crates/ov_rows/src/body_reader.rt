@@ -8,8 +8,7 @@ ghost use Rattle.ov_rows.specs.Named.{DoAscend};
 use crate::columns::Columns;
 use crate::guess::guess_values;
 use json::{Reader, Scratch};
-use ov_atoms::{AtomFault, Datum};
-use ov_base::ColumnNames;
+use ov_atoms::{AtomFault, Datum, RowShape};
 use std::alloc::Global;
 
 /// Reads the columns of rows from the bodies of their lines. Each read reuses the memory of the one before.
@@ -32,17 +31,17 @@ impl BodyReader {
     pub fn columns(
         &mut self,
         alloc: Global,
-        names: &ColumnNames,
+        shape: &RowShape,
         body: &[u8],
     ) -> Result<Columns, AtomFault>
-        requires { DoAscend names.now }
-        ensures names { IfOk result (λ columns. keys columns ≡ names.now) }
+        requires { DoAscend shape.now.names }
+        ensures names { IfOk result (λ columns. keys columns ≡ shape.now.names) }
         ensures text { IfOk result (λ columns. compact_text (body_of columns) ≡ body.now) }
         ensures reads_back { IfOk result (λ columns. AreOfKinds columns
             → tree_of body.now ≡ Some (body_of columns)) }
     {
-        let values = self.values(alloc, names, body)?;
-        let columns = Columns::listed(alloc, names, values)?;
+        let values = self.values(alloc, shape.names().len(), body)?;
+        let columns = Columns::listed(alloc, shape.share()?, values)?;
         let text = columns.text_in(Vec::with_capacity(alloc, body.len())?)?;
         if text.as_slice() == body {
             Ok(columns)
@@ -51,19 +50,19 @@ impl BodyReader {
         }
     }
 
-    /// A guessed value for each of these names, read from the body.
+    /// So many guessed values, read from the body.
     fn values(
         &mut self,
         alloc: Global,
-        names: &ColumnNames,
+        count: usize,
         body: &[u8],
     ) -> Result<Vec<Datum>, AtomFault>
-        ensures { IfOk result (λ values. length values.items ≡ length names.now) }
+        ensures { IfOk result (λ values. length values.items ≡ count) }
     {
         let Ok(text) = str::from_utf8(body) else {
             return Err(AtomFault::Syntax);
         };
         let mut reader = Reader::new(text, &mut self.scratch)?;
-        guess_values(alloc, names.as_slice().len(), &mut reader)
+        guess_values(alloc, count, &mut reader)
     }
 }

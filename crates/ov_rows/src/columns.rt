@@ -1,95 +1,95 @@
-ghost use Rattle.std.specs.Prelude.{◌≡◌, IfOk, length, map, option_copied, string_bytes};
+ghost use Rattle.std.specs.Prelude.{◌≡◌, IfOk, map, option_copied, string_bytes};
 ghost use Rattle.std.specs.FinMap.{get, insert, keys, values, entries};
 ghost use Rattle.ov_specs.specs.rows.Database.{same_columns};
-ghost use Rattle.ov_rows.specs.Named.{place_from, DoAscend};
+ghost use Rattle.ov_rows.specs.Named.{columns_at, place_from, IsListed};
 
+use crate::marks::{copied, marks_of, own_among, spread_out};
 use crate::named_values::NamedValues;
-use crate::value_iter::ValueIter;
-use crate::value_list::ValueList;
-use ov_atoms::Datum;
-use ov_base::ColumnNames;
+use crate::value_iter::{ValueIter, are_same};
+use ov_atoms::{Datum, RowShape};
 use std::alloc::{AllocError, Global};
 use std::marker::Model;
 
-/// The values of a row (RFC 7047, 5.1, `<row>`), in the order of their columns' names, which other rows share.
+/// The values of a row (RFC 7047, 5.1, `<row>`), in the order of their columns' names, which other rows share. Most values are
+/// their columns' defaults: for those of the first 64 columns the row has a bit each, and the default that all rows share.
 pub struct Columns {
-    pub(crate) names: ColumnNames,
-    pub(crate) values: ValueList,
+    shape: RowShape,
+    /// The bits, the lowest for the first column.
+    marks: u64,
+    /// The values of the columns whose bit is not set, in their order.
+    own: Vec<Datum>,
 }
 
 impl Model for Columns {
-    ghost use Rattle.std.specs.Prelude.{◌≡◌, T, length, zip};
-    ghost use Rattle.std.specs.FinMap.{is_sorted};
     ghost use Rattle.ov_specs.specs.rows.Database as database;
-    ghost use Rattle.ov_specs.specs.schema.SchemaTypes.{name_cmp};
     ghost use Rattle.ov_rows.specs.Resident.{columns_code};
-    ghost use Rattle.ov_rows.specs.Named.{columns_at};
+    ghost use Rattle.ov_rows.specs.Named.{columns_at, IsListed};
+    ghost use Rattle.ov_rows.specs.Spread.{spread};
 
     ghost Value = { database.Columns };
 
     ghost coded = { columns_code };
 
-    ghost view = { λ c. columns_at c.names c.values };
+    ghost view = { λ c. columns_at c.shape.names (spread c.marks c.shape.defaults c.own.items) };
 
-    ghost invariant = { λ c. T (is_sorted name_cmp (zip c.names c.values))
-        × (length c.values ≡ length c.names) };
+    ghost invariant = { λ c. IsListed c.shape.names
+        (spread c.marks c.shape.defaults c.own.items) };
 }
 
 impl Drop for Columns {
     // An explicit drop, so that crates above need not prove the drop of its parts again.
     fn drop(self) {
-        let Columns { names, values } = self;
-        drop(names);
-        drop(values);
+        let Columns {
+            shape,
+            marks: _,
+            own,
+        } = self;
+        drop(shape);
+        drop(own);
     }
 }
 
 impl Columns {
-    /// These values, in columns of exactly these names. The names are not copied.
-    pub fn of(alloc: Global, names: &ColumnNames, named: NamedValues) -> Result<Columns, AllocError>
-        requires { keys named ≡ names.now }
-        ensures { IfOk result (λ columns. columns ≡ named) }
-    {
-        Ok(Columns {
-            names: names.share()?,
-            values: ValueList::of(alloc, named.into_values(alloc)?)?,
-        })
-    }
-
-    /// These values, each in the column of the name at its place. The names are not copied.
+    /// These values, each in the column of the name at its place. Neither the names nor the defaults are copied.
     pub(crate) fn listed(
         alloc: Global,
-        names: &ColumnNames,
+        shape: RowShape,
         values: Vec<Datum>,
     ) -> Result<Columns, AllocError>
-        requires ascend { DoAscend names.now }
-        requires as_many { length values.items ≡ length names.now }
-        ensures { IfOk result (λ columns. keys columns ≡ names.now) }
+        requires { IsListed shape.names values.items }
+        ensures { IfOk result (λ columns. columns ≡ columns_at shape.names values.items) }
     {
-        Ok(Columns {
-            names: names.share()?,
-            values: ValueList::of(alloc, values)?,
-        })
+        let marks = marks_of(shape.defaults(), values.as_slice());
+        let own = own_among(alloc, marks, values)?;
+        Ok(Columns { shape, marks, own })
     }
 
-    /// These values, under names that no other row shares.
+    /// These values, in columns of exactly these names. Neither the names nor the defaults are copied.
+    pub fn of(alloc: Global, shape: &RowShape, named: NamedValues) -> Result<Columns, AllocError>
+        requires { keys named ≡ shape.now.names }
+        ensures { IfOk result (λ columns. columns ≡ named) }
+    {
+        Columns::listed(alloc, shape.share()?, named.into_values(alloc)?)
+    }
+
+    /// These values, under names that no other row shares, and without defaults.
     pub fn with_own_names(alloc: Global, named: NamedValues) -> Result<Columns, AllocError>
         ensures { IfOk result (λ columns. columns ≡ named) }
     {
-        let names = named.names(alloc)?;
-        Columns::of(alloc, &names, named)
+        let shape = RowShape::new(alloc, named.names(alloc)?, Vec::new(alloc))?;
+        Columns::of(alloc, &shape, named)
     }
 
-    /// These values. If their columns have exactly these names, the names are not copied.
+    /// These values. If their columns have exactly these names, the names and the defaults are not copied.
     pub fn sharing(
         alloc: Global,
-        names: &ColumnNames,
+        shape: &RowShape,
         named: NamedValues,
     ) -> Result<Columns, AllocError>
         ensures { IfOk result (λ columns. columns ≡ named) }
     {
-        if named.has_names(names) {
-            Columns::of(alloc, names, named)
+        if named.has_names(shape.names()) {
+            Columns::of(alloc, shape, named)
         } else {
             Columns::with_own_names(alloc, named)
         }
@@ -100,8 +100,9 @@ impl Columns {
         ensures { IfOk result (λ columns. columns ≡ self.now) }
     {
         Ok(Columns {
-            names: self.names.share()?,
-            values: self.values.copy(alloc)?,
+            shape: self.shape.share()?,
+            marks: self.marks,
+            own: copied(alloc, self.own.as_slice())?,
         })
     }
 
@@ -110,7 +111,7 @@ impl Columns {
         ensures { IfOk result (λ named. named ≡ self.now) }
     {
         let mut named = NamedValues::new(alloc);
-        for (name, datum) in self.names.as_slice().iter().zip(self.values.iter()) {
+        for (name, datum) in self.names().iter().zip(self.values()) {
             named.insert(String::from_str(alloc, name.as_str())?, datum.copy(alloc)?)?;
         }
         Ok(named)
@@ -121,15 +122,12 @@ impl Columns {
     pub fn with_value(self, alloc: Global, name: &str, datum: Datum) -> Result<Columns, AllocError>
         ensures { IfOk result (λ columns. columns ≡ insert self name.now datum) }
     {
-        match place_of(self.names.as_slice(), name) {
+        match place_of(self.shape.names(), name) {
             Some(place) => {
-                let Columns { names, values } = self;
-                let mut values = values.into_vec(alloc)?;
+                let Columns { shape, marks, own } = self;
+                let mut values = spread_out(alloc, marks, shape.defaults(), own)?;
                 values[place] = datum;
-                Ok(Columns {
-                    names,
-                    values: ValueList::of(alloc, values)?,
-                })
+                Columns::listed(alloc, shape, values)
             }
             None => {
                 let mut named = self.to_named(alloc)?;
@@ -143,21 +141,21 @@ impl Columns {
     pub fn names(&self) -> &[String]
         ensures { map string_bytes result.now ≡ keys self.now }
     {
-        self.names.as_slice()
+        self.shape.names()
     }
 
     /// The values, in ascending order of the names of their columns.
     pub fn values(&self) -> ValueIter<'_>
         ensures { result ≡ values self.now }
     {
-        self.values.iter()
+        ValueIter::new(self.marks, self.shape.defaults(), self.own.as_slice())
     }
 
     /// The value of the column of this name.
     pub fn get(&self, name: &str) -> Option<&Datum>
         ensures { option_copied result ≡ get self.now name.now }
     {
-        for (known, datum) in self.names.as_slice().iter().zip(self.values.iter()) {
+        for (known, datum) in self.names().iter().zip(self.values()) {
             if name == known.as_str() {
                 return Some(datum);
             }
@@ -169,7 +167,7 @@ impl Columns {
     pub fn is_same(&self, other: &Columns) -> bool
         ensures { result ≡ same_columns (entries self.now) (entries other.now) }
     {
-        self.names.as_slice() == other.names.as_slice() && self.values.is_same(&other.values)
+        self.names() == other.names() && are_same(self.values(), other.values())
     }
 }
 

@@ -8,13 +8,13 @@ mod columns;
 mod guess;
 mod id;
 mod key;
+mod marks;
 mod named_values;
 mod row;
 mod row_view;
 mod rows;
 mod table_rows;
 mod value_iter;
-mod value_list;
 
 pub use body_reader::BodyReader;
 pub use columns::Columns;

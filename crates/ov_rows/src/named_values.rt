@@ -1,9 +1,8 @@
-ghost use Rattle.std.specs.Prelude.{◌≡◌, IfOk, OnOk, OnErr, true, string_bytes};
+ghost use Rattle.std.specs.Prelude.{◌≡◌, IfOk, OnOk, OnErr, map, true, string_bytes};
 ghost use Rattle.std.specs.FinMap.{empty, contains_key, insert, keys, values, entries};
 ghost use Rattle.ov_rows.specs.Named.{named};
 
 use ov_atoms::Datum;
-use ov_base::ColumnNames;
 use std::alloc::{AllocError, Global};
 use std::collections::BTreeMap;
 use std::marker::Model;
@@ -66,10 +65,9 @@ impl NamedValues {
     }
 
     /// Whether the columns that have a value are exactly those of these names.
-    pub(crate) fn has_names(&self, names: &ColumnNames) -> bool
-        ensures { result ≡ true → keys self.now ≡ names.now }
+    pub(crate) fn has_names(&self, listed: &[String]) -> bool
+        ensures { result ≡ true → keys self.now ≡ map string_bytes listed.now }
     {
-        let listed = names.as_slice();
         let mut place: usize = 0;
         for (name, _datum) in &self.values {
             if place >= listed.len() || name.as_str() != listed[place].as_str() {
@@ -81,14 +79,14 @@ impl NamedValues {
     }
 
     /// The names of the columns that have a value, ascending.
-    pub(crate) fn names(&self, alloc: Global) -> Result<ColumnNames, AllocError>
-        ensures { IfOk result (λ names. names ≡ keys self.now) }
+    pub(crate) fn names(&self, alloc: Global) -> Result<Vec<String>, AllocError>
+        ensures { IfOk result (λ names. map string_bytes names.items ≡ keys self.now) }
     {
         let mut names = Vec::new(alloc);
         for (name, _datum) in &self.values {
             names.push(String::from_str(alloc, name.as_str())?)?;
         }
-        ColumnNames::new(alloc, names)
+        Ok(names)
     }
 
     /// The values without their names, in ascending order of the names.

@@ -1,6 +1,8 @@
 ghost use Rattle.std.specs.Prelude.{◌≡◌};
+ghost use Rattle.std.specs.Cmp.Lexicographic.{pointwise};
 ghost use Rattle.std.specs.Iterator.{YieldsFirstRef, item_count};
-ghost use Rattle.std.specs.Option.{option_copied};
+ghost use Rattle.std.specs.Ordering.{eq_by_cmp};
+ghost use Rattle.ov_specs.specs.values.Value.{datum_cmp};
 ghost use Rattle.ov_rows.specs.Spread.{spread};
 
 use ov_atoms::Datum;
@@ -11,13 +13,12 @@ use std::marker::Model;
 #[derive(Drop)]
 pub struct ValueIter<'a> {
     marks: u64,
-    shared: Option<&'a Datum>,
+    defaults: &'a [Datum],
     own: &'a [Datum],
 }
 
 impl<'a> Model for ValueIter<'a> {
     ghost use Rattle.std.specs.Prelude.{List};
-    ghost use Rattle.std.specs.Option.{option_copied};
     ghost use Rattle.std.specs.Coded.{coded_list};
     ghost use Rattle.ov_specs.specs.codes.ValueCode.{datum_code};
     ghost use Rattle.ov_specs.specs.values.Value as value;
@@ -27,15 +28,19 @@ impl<'a> Model for ValueIter<'a> {
 
     ghost coded = { coded_list datum_code };
 
-    ghost view = { λ i. spread i.marks (option_copied i.shared) i.own.now };
+    ghost view = { λ i. spread i.marks i.defaults.now i.own.now };
 }
 
 impl<'a> ValueIter<'a> {
-    /// These values of the row's own, with the shared one for each column whose mark is set.
-    pub(crate) fn new(marks: u64, shared: Option<&'a Datum>, own: &'a [Datum]) -> ValueIter<'a>
-        ensures { result ≡ spread marks (option_copied shared.entry) own.now }
+    /// The default of each column that has a mark, and the row's own values for the others.
+    pub(crate) fn new(marks: u64, defaults: &'a [Datum], own: &'a [Datum]) -> ValueIter<'a>
+        ensures { result ≡ spread marks defaults.now own.now }
     {
-        ValueIter { marks, shared, own }
+        ValueIter {
+            marks,
+            defaults,
+            own,
+        }
     }
 }
 
@@ -47,14 +52,36 @@ impl<'a> Iterator for ValueIter<'a> {
     ghost remaining = { item_count (λ s. s) };
 
     fn next(&mut self) -> Option<&'a Datum> {
+        let Some((default, defaults)) = self.defaults.split_first() else {
+            let (first, own) = self.own.split_first()?;
+            self.own = own;
+            return Some(first);
+        };
         if self.marks % 2 == 1 {
-            let shared = self.shared?;
             self.marks /= 2;
-            return Some(shared);
+            self.defaults = defaults;
+            return Some(default);
         }
-        let (first, rest) = self.own.split_first()?;
-        self.own = rest;
+        let (first, own) = self.own.split_first()?;
         self.marks /= 2;
+        self.defaults = defaults;
+        self.own = own;
         Some(first)
     }
+}
+
+/// Whether these are the same values.
+pub(crate) fn are_same(mine: ValueIter<'_>, others: ValueIter<'_>) -> bool
+    ensures { result ≡ pointwise (eq_by_cmp datum_cmp) mine.entry others.entry }
+{
+    let mut rest = others;
+    for datum in mine {
+        let Some(other) = rest.next() else {
+            return false;
+        };
+        if *datum != *other {
+            return false;
+        }
+    }
+    rest.next().is_none()
 }

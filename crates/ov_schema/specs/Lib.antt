@@ -2,3 +2,4 @@ pub mod Sets
 pub mod NamedViews
 pub mod Built
 pub mod Parts
+pub mod Shapes

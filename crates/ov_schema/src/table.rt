@@ -5,11 +5,13 @@ ghost use Rattle.ov_specs.specs.rows.RowNames.{row_names};
 ghost use Rattle.ov_specs.specs.schema.Schema.{own_column, own_columns};
 ghost use Rattle.ov_schema.specs.Built.{indexes_in};
 ghost use Rattle.ov_schema.specs.NamedViews.{named_view};
+ghost use Rattle.ov_schema.specs.Shapes.{row_defaults};
 
 use crate::column::Column;
 use crate::named::{ascending, find_named, find_near};
-use crate::row_names::names_of_row;
-use ov_base::{ColumnNames, Text};
+use crate::row_shape::shape_of;
+use ov_atoms::RowShape;
+use ov_base::Text;
 use std::alloc::{AllocError, Global};
 use std::marker::Model;
 
@@ -20,19 +22,19 @@ const OWN_COLUMNS: usize = 2;
 /// ones.
 pub struct Table {
     columns: Vec<(Text, Column)>,
-    row_names: ColumnNames,
+    row_shape: RowShape,
     max_rows: Option<i64>,
     is_root: bool,
     indexes: Vec<Vec<Text>>,
 }
 
 impl Model for Table {
-    ghost use Rattle.std.specs.Prelude.{◌≡◌, T, map};
+    ghost use Rattle.std.specs.Prelude.{◌≡◌, T};
     ghost use Rattle.std.specs.FinMap.{from_entries, is_sorted};
-    ghost use Rattle.ov_specs.specs.rows.RowNames.{without_own};
     ghost use Rattle.ov_specs.specs.schema.SchemaTypes as types;
     ghost use Rattle.ov_specs.specs.codes.SchemaCode.{table_code};
     ghost use Rattle.ov_schema.specs.Built.{indexes_in};
+    ghost use Rattle.ov_schema.specs.Shapes.{shape_in};
 
     ghost Value = { types.Table };
 
@@ -46,7 +48,7 @@ impl Model for Table {
     } };
 
     ghost invariant = { λ t. T (is_sorted types.name_cmp t.columns.items)
-        × (t.row_names ≡ without_own (map (λ c. c.0) t.columns.items)) };
+        × (t.row_shape ≡ shape_in t.columns.items) };
 }
 
 impl Drop for Table {
@@ -54,13 +56,13 @@ impl Drop for Table {
     fn drop(self) {
         let Table {
             columns,
-            row_names,
+            row_shape,
             indexes,
             max_rows: _,
             is_root: _,
         } = self;
         drop(columns);
-        drop(row_names);
+        drop(row_shape);
         drop(indexes);
     }
 }
@@ -84,7 +86,7 @@ impl Table {
     {
         let columns = ascending(alloc, with_own(alloc, columns)?)?;
         Ok(Table {
-            row_names: names_of_row(alloc, columns.as_slice())?,
+            row_shape: shape_of(alloc, columns.as_slice())?,
             columns,
             max_rows,
             is_root,
@@ -114,11 +116,13 @@ impl Table {
         self.columns.as_slice()
     }
 
-    /// The names of a row's columns, without `_uuid` and `_version`, in ascending order of their bytes.
-    pub fn names_of_row(&self) -> &ColumnNames
-        ensures { result.now ≡ row_names self.now }
+    /// What all rows of the table share: the names of their columns, without `_uuid` and `_version`, in ascending order of
+    /// their bytes, and the default of each.
+    pub fn row_shape(&self) -> &RowShape
+        ensures names { result.now.names ≡ row_names self.now }
+        ensures defaults { result.now.defaults ≡ row_defaults self.now }
     {
-        &self.row_names
+        &self.row_shape
     }
 
     /// The maximum number of rows after a commit, at least 1, or `None` if there is no limit.

@@ -1,5 +1,5 @@
 use crate::texts::{fact_text, number_text, owned, push_item};
-use ov_atoms::{Atom, Datum};
+use ov_atoms::{Atom, Datum, write_datum};
 use ov_base::Text;
 use ov_db::Delta;
 use ov_rows::{Columns, NamedValues, Row, RowKey, Rows, TableRows};
@@ -103,31 +103,28 @@ fn values_are_gathered_by_their_names(rt: HostRuntime) -> Result<(), Fail> {
     agrees(rt.alloc(), Gathered { values }, GATHERED)
 }
 
-/// Names, each followed by a semicolon.
-fn joined(alloc: Global, names: &[String]) -> Result<String, Fail> {
+/// The names of a row's columns, each followed by its default, as all rows of the table share them.
+fn shape_text(alloc: Global, table: &Table) -> Result<String, Fail> {
+    let shape = table.row_shape().share()?;
     let mut text = String::new(alloc);
-    for name in names {
+    for (name, default) in shape.names().iter().zip(shape.defaults()) {
         push_item(&mut text, name.as_str())?;
+        push_item(&mut text, write_datum(alloc, default)?.to_string(alloc)?.as_str())?;
     }
     Ok(text)
 }
 
-/// The names of a row's columns, shared.
-fn names_of(alloc: Global, table: &Table) -> Result<String, Fail> {
-    let names = table.names_of_row().share()?;
-    joined(alloc, names.as_slice())
-}
-
-/// The names of a switch's columns.
-fn names_of_switch(alloc: Global) -> Result<String, Fail> {
+/// The names and the defaults of a switch's columns.
+fn shape_of_switch(alloc: Global) -> Result<String, Fail> {
     let schema = net(alloc)?;
-    names_of(alloc, schema.table("Switch").ok_or("no table")?)
+    shape_text(alloc, schema.table("Switch").ok_or("no table")?)
 }
 
 #[test]
-fn names_are_shared(rt: HostRuntime) -> Result<(), Fail> {
-    let names = names_of_switch(rt.alloc())?;
-    is_text(rt.alloc(), names.as_str(), "load;main;name;ports;")
+fn names_and_defaults_are_shared(rt: HostRuntime) -> Result<(), Fail> {
+    let shape = shape_of_switch(rt.alloc())?;
+    let text = r#"load;0;main;["set",[]];name;"";ports;["set",[]];"#;
+    is_text(rt.alloc(), shape.as_str(), text)
 }
 
 /// The key of a table and a number.

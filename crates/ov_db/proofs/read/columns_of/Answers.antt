@@ -20,7 +20,7 @@ of-requires c =
     let values = c.in_ok-values.values in
     let stored : columns_stored (OneText c.args.text.now) table ≡ Some values =
     subst (λ (o : Option Data). columns_by (trees_in o) table ≡ Some values) c.in_ok-body.ensures.ok c.in_ok-values.ensures in
-    names_of_suiting table values (stored_columns_suit table (OneText c.args.text.now) values stored) ∙ sym c.names_of_row.ensures
+    names_of_suiting table values (stored_columns_suit table (OneText c.args.text.now) values stored) ∙ sym c.row_shape.ensures.names
 
 pub returns : goal.returns
 returns c =

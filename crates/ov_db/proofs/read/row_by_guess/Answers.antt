@@ -8,7 +8,7 @@ use Rattle.ov_db.proofs.Guessed.{row_names_ascend, guessed_row}
 use Rattle.ov_db.proofs.read.row_by_guess.Goals as goal
 
 pub columns-requires : goal.columns-requires
-columns-requires c = subst DoAscend (sym c.names_of_row.ensures) (row_names_ascend c.args.table.now)
+columns-requires c = subst DoAscend (sym c.row_shape.ensures.names) (row_names_ascend c.args.table.now)
 
 pub returns : goal.returns
 returns c =
@@ -16,4 +16,4 @@ returns c =
     let are : are_values_for c.args.table.now (values columns) ≡ true = search rules in
     let read : AreOfKinds columns → tree_of c.args.line.now.body ≡ Some (body_of columns) =
     subst (λ (body : List ℕ). AreOfKinds columns → tree_of body ≡ Some (body_of columns)) c.as_slice.ensures c.in_ok-columns.ensures.reads_back in
-    guessed_row c.args.table.now columns (c.in_ok-columns.ensures.names ∙ c.names_of_row.ensures) are c.args.line.now.version c.args.line.now.body (c.in_ok-columns.ensures.text ∙ c.as_slice.ensures) read
+    guessed_row c.args.table.now columns (c.in_ok-columns.ensures.names ∙ c.row_shape.ensures.names) are c.args.line.now.version c.args.line.now.body (c.in_ok-columns.ensures.text ∙ c.as_slice.ensures) read

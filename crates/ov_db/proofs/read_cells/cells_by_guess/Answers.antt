@@ -7,7 +7,7 @@ use Rattle.ov_db.proofs.Guessed.{row_names_ascend, guessed_cells}
 use Rattle.ov_db.proofs.read_cells.cells_by_guess.Goals as goal
 
 pub guessed_columns-requires : goal.guessed_columns-requires
-guessed_columns-requires c = subst DoAscend (sym c.names_of_row.ensures) (row_names_ascend c.args.table.now)
+guessed_columns-requires c = subst DoAscend (sym c.row_shape.ensures.names) (row_names_ascend c.args.table.now)
 
 pub returns : goal.returns
 returns c =
@@ -16,4 +16,4 @@ returns c =
     let are : are_values_for table (values columns) ≡ true = search rules in
     let cells = c.args.line.now.cells.items in
     let same : cells_view cells ≡ cells_view c.as_slice.result.now = sym (ap (λ cs. cells_view cs) c.as_slice.ensures.value) in
-    guessed_cells table columns (c.in_ok-columns.ensures.names ∙ c.names_of_row.ensures) are c.args.line.now.version (cells_view cells) (same ∙ c.in_ok-columns.ensures.cells) c.in_ok-columns.ensures.read
+    guessed_cells table columns (c.in_ok-columns.ensures.names ∙ c.row_shape.ensures.names) are c.args.line.now.version (cells_view cells) (same ∙ c.in_ok-columns.ensures.cells) c.in_ok-columns.ensures.read

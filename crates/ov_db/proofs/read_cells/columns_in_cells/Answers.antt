@@ -9,4 +9,4 @@ pub of-requires : goal.of-requires
 of-requires c =
     let table = c.args.table.now in
     let values = c.in_ok-values.values in
-    names_of_suiting table values (stored_columns_suit table (OfCells (cells_view c.args.cells.now)) values c.in_ok-values.ensures) ∙ sym c.names_of_row.ensures
+    names_of_suiting table values (stored_columns_suit table (OfCells (cells_view c.args.cells.now)) values c.in_ok-values.ensures) ∙ sym c.row_shape.ensures.names

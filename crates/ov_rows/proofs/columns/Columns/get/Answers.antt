@@ -1,9 +1,8 @@
 use Rattle.std.proofs.Common.{◌≡◌, true, false, sym, ap, ◌∙◌, string_bytes}
 use Rattle.std.specs.Str.{bytes_eq}
-use Rattle.std.specs.FinMap.{find, get}
-use Rattle.ov_specs.specs.rows.Database.{Columns}
+use Rattle.std.specs.FinMap.{find, get-entries, keys, values, entries}
 use Rattle.ov_specs.specs.schema.SchemaTypes.{name_cmp}
-use Rattle.ov_rows.proofs.Names.{paired, paired-start, paired-end, find-paired, get-columns_at, paired-more, paired-empty}
+use Rattle.ov_rows.proofs.Names.{paired, paired-start, zip-entries, paired-end, find-paired, paired-more, paired-empty}
 use Rattle.ov_rows.proofs.columns.Columns.get.Goals as goal
 
 pub loop-known-preserved : goal.loop-known-preserved
@@ -19,23 +18,20 @@ pub returns-then-eq : goal.returns-then-eq
 returns-then-eq c =
     let name = c.args.name.now in
     let later = c.next.new.self in
-    let names = c.self.inside.names in
-    let values = c.self.inside.values in
+    let columns = c.args.self.now in
     let pairs = c.zip-known-items.ensures in
     let more = paired-more c.loop-known.known-iterator later c.next.result _ c.in-Some.is c.next.ensures.steps in
     let same : bytes_eq name (string_bytes c.in-Some.known.now) ≡ true = ap (bytes_eq name) (sym c.as_str.ensures.value) ∙ sym c.eq.ensures ∙ c.if-eq.true in
-    let whole = paired-start _ _ _ _ names values c.into_iter-known-iterator.ensures.into_iter_gives pairs.first c.iter.ensures.rest c.as_slice.ensures (pairs.second ∙ c.iter-2.ensures) in
+    let whole = paired-start _ _ _ _ (keys columns) (values columns) c.into_iter-known-iterator.ensures.into_iter_gives pairs.first c.iter.ensures.rest c.names.ensures (pairs.second ∙ c.values.ensures) ∙ zip-entries (entries columns) in
     sym (find-paired name c.in-Some.known.now c.in-Some.datum.now later.a.rest.now later.b true same)
     ∙ sym (λ i. find name_cmp name (paired (more.0 i) (more.1 i))) ∙ c.loop-known.invariant
-    ∙ ap (find name_cmp name) whole ∙ sym (get-columns_at names values name c.self.invariant.0) ∙ ap (λ (columns : Columns). get columns name) c.self.view_is
+    ∙ ap (find name_cmp name) whole ∙ sym (get-entries columns name)
 
 pub returns : goal.returns
 returns c =
     let name = c.args.name.now in
-    let names = c.self.inside.names in
-    let values = c.self.inside.values in
+    let columns = c.args.self.now in
     let pairs = c.zip-known-items.ensures in
-    let whole = paired-start _ _ _ _ names values c.into_iter-known-iterator.ensures.into_iter_gives pairs.first c.iter.ensures.rest c.as_slice.ensures (pairs.second ∙ c.iter-2.ensures) in
+    let whole = paired-start _ _ _ _ (keys columns) (values columns) c.into_iter-known-iterator.ensures.into_iter_gives pairs.first c.iter.ensures.rest c.names.ensures (pairs.second ∙ c.values.ensures) ∙ zip-entries (entries columns) in
     let end = paired-end _ _ (paired-empty c.loop-known.known-iterator c.next.new.self c.next.result c.in-None.is c.next.ensures.steps) in
-    sym (ap (find name_cmp name) end) ∙ c.loop-known.invariant
-    ∙ ap (find name_cmp name) whole ∙ sym (get-columns_at names values name c.self.invariant.0) ∙ ap (λ (columns : Columns). get columns name) c.self.view_is
+    sym (ap (find name_cmp name) end) ∙ c.loop-known.invariant ∙ ap (find name_cmp name) whole ∙ sym (get-entries columns name)

@@ -1,19 +1,17 @@
-use Rattle.std.proofs.Common.{◌≡◌, T, length, zip, sym, ap, subst, ◌∙◌}
-use Rattle.std.specs.FinMap.{is_sorted}
-use Rattle.ov_specs.specs.schema.SchemaTypes.{name_cmp}
-use Rattle.ov_rows.specs.Named.{DoAscend}
-use Rattle.ov_rows.proofs.Listed.{ascend, keys-columns_at}
+use Rattle.std.proofs.Common.{◌≡◌, sym, ap, subst, ◌∙◌}
+use Rattle.ov_rows.specs.Named.{columns_at, IsListed}
+use Rattle.ov_rows.specs.Spread.{own_among, spread}
 use Rattle.ov_rows.proofs.columns.Columns.listed.Goals as goal
-use Rattle.ov_rows.proofs.columns.Columns.listed.Goals.{In_ok-of}
+use Rattle.ov_rows.proofs.columns.Columns.listed.Goals.{In_ok-own}
 
-sorted : (c : In_ok-of) → T (is_sorted name_cmp (zip c.in_ok-share.field-0 c.in_ok-of.field-0))
-sorted c = ascend c.in_ok-share.field-0 c.in_ok-of.field-0 (subst DoAscend (sym c.in_ok-share.ensures) c.requires.ascend)
-
-as_many : (c : In_ok-of) → length c.in_ok-of.field-0 ≡ length c.in_ok-share.field-0
-as_many c = ap length c.in_ok-of.ensures ∙ c.requires.as_many ∙ ap length (sym c.in_ok-share.ensures)
+-- the marks and the row's own values give back the values
+given_back : (c : In_ok-own) → spread c.marks_of-marks.result c.args.shape.defaults c.in_ok-own.own.items ≡ c.args.values.items
+given_back c =
+    let own : c.in_ok-own.own.items ≡ own_among c.marks_of-marks.result c.as_slice.result.now = c.in_ok-own.ensures ∙ ap (own_among c.marks_of-marks.result) (sym c.as_slice.ensures.value) in
+    (λ i. spread c.marks_of-marks.result (sym c.defaults.ensures i) (own i)) ∙ c.marks_of-marks.ensures ∙ c.as_slice.ensures.value
 
 pub invariant_of-result : goal.invariant_of-result
-invariant_of-result c = (sorted c, as_many c)
+invariant_of-result c = subst (IsListed c.args.shape.names) (sym (given_back c)) c.requires
 
 pub returns : goal.returns
-returns c = keys-columns_at c.in_ok-share.field-0 c.in_ok-of.field-0 (sorted c) (as_many c) ∙ c.in_ok-share.ensures
+returns c = ap (columns_at c.args.shape.names) (given_back c)

@@ -1,9 +1,12 @@
-use Rattle.std.proofs.Common.{sym, ◌∙◌}
+use Rattle.std.proofs.Common.{sym, ap, ◌∙◌}
+use Rattle.std.proofs.lemmas.Result.{IfOk-weaker}
 use Rattle.ov_rows.proofs.Names.{apart-invariant, columns_at-apart}
 use Rattle.ov_rows.proofs.columns.Columns.of.Goals as goal
 
-pub invariant_of-result : goal.invariant_of-result
-invariant_of-result c = apart-invariant c.args.named _ _ (c.in_ok-share.ensures ∙ sym c.requires) (c.in_ok-of.ensures ∙ c.in_ok-into_values.ensures)
+pub listed-requires : goal.listed-requires
+listed-requires c = apart-invariant c.args.named _ _ (ap (λ s. s.names) c.in_ok-share.ensures ∙ sym c.requires) c.in_ok-into_values.ensures
 
 pub returns : goal.returns
-returns c = columns_at-apart c.args.named _ _ (c.in_ok-share.ensures ∙ sym c.requires) (c.in_ok-of.ensures ∙ c.in_ok-into_values.ensures)
+returns c =
+    IfOk-weaker c.listed.result _ _ (λ columns is.
+    is ∙ columns_at-apart c.args.named _ _ (ap (λ s. s.names) c.in_ok-share.ensures ∙ sym c.requires) c.in_ok-into_values.ensures) c.listed.ensures

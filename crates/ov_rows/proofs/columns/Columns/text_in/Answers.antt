@@ -1,8 +1,7 @@
 use Rattle.std.proofs.Common.{rules, ◌≡◌, ◌++◌, ◌∷◌, [], flat_map, sym, true, None, if◌then◌else◌, ap, ◌∙◌, append_assoc, append-nil}
-use Rattle.std.specs.FinMap.{entries}
+use Rattle.std.specs.FinMap.{keys, values, entries}
 use Rattle.json.specs.Token.{begin_object, end_object}
 use Rattle.json.specs.Print.{print}
-use Rattle.ov_specs.specs.rows.Database.{Columns}
 use Rattle.std.specs.Str.{is_utf8}
 use Rattle.std.proofs.lemmas.Str.{is_utf8-from_IsUtf8}
 use Rattle.serde_json.specs.Read.{read}
@@ -10,7 +9,7 @@ use Rattle.ov_specs.specs.wire.Message.{tree_of}
 use Rattle.ov_atoms.specs.Tokens.{tokens_of}
 use Rattle.ov_rows.specs.Body.{body_of, column_tokens}
 use Rattle.ov_rows.proofs.BodyText.{body-tokens, body-text, body-reads-back}
-use Rattle.ov_rows.proofs.Names.{paired, paired-start, paired-end, entries-columns_at, paired-more, paired-empty}
+use Rattle.ov_rows.proofs.Names.{paired, paired-start, zip-entries, paired-end, paired-more, paired-empty}
 use Rattle.ov_rows.proofs.columns.Columns.text_in.Goals as goal
 
 pub loop-name-preserved : goal.loop-name-preserved
@@ -28,21 +27,18 @@ loop-name-preserved c =
 
 all_put : (c : goal.After-from_vec) → c.end_object.new.self.tokens ≡ tokens_of (body_of c.args.self.now)
 all_put c =
-    let names = c.self.inside.names in
-    let values = c.self.inside.values in
+    let columns = c.args.self.now in
     let pairs = c.zip-name-items.ensures in
     let first = c.into_iter-name-iterator.result in
     let last = c.next.new.self in
-    let whole = paired-start _ _ _ _ names values c.into_iter-name-iterator.ensures.into_iter_gives pairs.first c.iter.ensures.rest c.as_slice.ensures (pairs.second ∙ c.iter-2.ensures) in
+    let whole = paired-start _ _ _ _ (keys columns) (values columns) c.into_iter-name-iterator.ensures.into_iter_gives pairs.first c.iter.ensures.rest c.names.ensures (pairs.second ∙ c.values.ensures) ∙ zip-entries (entries columns) in
     let end = paired-end _ _ (paired-empty c.loop-name.name-iterator last c.next.result c.in-None.is c.next.ensures.steps) in
     let begun : c.begin_object.new.self.tokens ≡ begin_object ∷ [] = search rules in
     let put : c.loop-name.out.tokens ≡ c.begin_object.new.self.tokens ++ flat_map column_tokens (paired first.a.rest.now first.b) =
     sym (append-nil c.loop-name.out.tokens) ∙ (sym (ap (λ es. c.loop-name.out.tokens ++ flat_map column_tokens es) end) ∙ c.loop-name.invariant.put_so_far) in
-    let columns : paired first.a.rest.now first.b ≡ entries c.args.self.now =
-    whole ∙ (sym (entries-columns_at names values c.self.invariant.0) ∙ ap (λ (columns : Columns). entries columns) c.self.view_is) in
     c.in_ok-end_object.ensures.ok
     ∙ (ap (λ ts. ts ++ end_object ∷ []) (put ∙ ap (λ ts. ts ++ flat_map column_tokens (paired first.a.rest.now first.b)) begun)
-    ∙ (ap (λ es. begin_object ∷ (flat_map column_tokens es ++ end_object ∷ [])) columns ∙ body-tokens c.args.self.now))
+    ∙ (ap (λ es. begin_object ∷ (flat_map column_tokens es ++ end_object ∷ [])) whole ∙ body-tokens c.args.self.now))
 
 text_is : (c : goal.After-from_vec) → c.from_vec.result ≡ print c.end_object.new.self.tokens
 text_is c =

@@ -14,7 +14,7 @@ was_seen false h = cc
 
 pub loop-name-preserved : goal.loop-name-preserved
 loop-name-preserved c =
-    let listed = c.as_slice-listed.result.now in
+    let listed = c.args.listed.now in
     let place = c.loop-name.place in
     let known = c.index-listed-place.result in
     let rest = map (λ e. string_bytes e.0) c.next.new.self in
@@ -29,7 +29,7 @@ loop-name-preserved c =
 
 pub returns : goal.returns
 returns c = λ h.
-    let listed = c.as_slice-listed.result.now in
+    let listed = c.args.listed.now in
     let place = c.loop-name.place in
     let all = c.self.inside.values.entries in
     let full : length listed ≤ place = grind (arith, nat_tests, h) in
@@ -37,4 +37,4 @@ returns c = λ h.
     sym (ap (map string_bytes) (take_all place listed full)) ∙ (sym (append-nil (map string_bytes (take place listed)))
     ∙ (sym (ap (λ es. map string_bytes (take place listed) ++ map (λ e. string_bytes e.0) es) c.in-None.ensures.steps.0)
     ∙ (c.loop-name.invariant.same ∙ ap (map (λ e. string_bytes e.0)) c.into_iter-name-iterator.ensures.into_iter_gives.0))) in
-    sym (sym c.as_slice-listed.ensures ∙ (whole ∙ (keys-named all ∙ (ap (map (λ e. e.0)) (sym (entries-columns_of all c.self.invariant)) ∙ ap (λ (m : Columns). keys m) c.self.view_is))))
+    sym (whole ∙ (keys-named all ∙ (ap (map (λ e. e.0)) (sym (entries-columns_of all c.self.invariant)) ∙ ap (λ (m : Columns). keys m) c.self.view_is)))

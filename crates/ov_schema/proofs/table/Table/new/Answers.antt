@@ -1,15 +1,15 @@
-use Rattle.std.proofs.Common.{T, map, sym, ap, ◌∙◌, subst}
+use Rattle.std.proofs.Common.{T, sym, ap, ◌∙◌, subst}
 use Rattle.std.specs.FinMap.{entries_sorted, from_entries, is_sorted}
-use Rattle.ov_specs.specs.rows.RowNames.{without_own}
 use Rattle.ov_specs.specs.schema.SchemaTypes.{name_cmp}
 use Rattle.ov_schema.specs.Built.{indexes_in}
+use Rattle.ov_schema.specs.Shapes.{shape_in}
 use Rattle.ov_schema.proofs.NamedLemmas.{from_entries-entries}
 use Rattle.ov_schema.proofs.table.Table.new.Goals as goal
 
 pub invariant_of-result : goal.invariant_of-result
 invariant_of-result c = (
   subst (λ es. T (is_sorted name_cmp es)) (sym c.in_ok-columns.ensures) (entries_sorted _),
-  c.in_ok-names_of_row.ensures ∙ ap (λ cs. without_own (map (λ c. c.0) cs)) c.as_slice.ensures.value,
+  c.in_ok-shape_of.ensures ∙ ap shape_in c.as_slice.ensures.value,
 )
 
 pub returns : goal.returns
