@@ -1,10 +1,11 @@
 -- Values in a list, each in the column of the name at its place.
-use Rattle.std.proofs.Common.{◌≡◌, ℕ, List, [], ◌∷◌, map, length, zip, arith, T, refl, ap, ◌∙◌}
+use Rattle.std.proofs.Common.{◌≡◌, ℕ, List, [], ◌∷◌, map, length, zip, String, string_bytes, Global, arith, T, refl, sym, ap, subst, ◌∙◌, length-map}
 use Rattle.std.specs.FinMap.{is_sorted, keys, values}
 use Rattle.std.specs.FinMap.Entries.{below_all}
 use Rattle.ov_specs.specs.schema.SchemaTypes.{name_cmp}
 use Rattle.ov_specs.specs.values.Value.{Datum}
 use Rattle.ov_specs.proofs.laws.Truths.{both_hold, left_holds, right_holds}
+use Rattle.ov_atoms.specs.Shape.{Shape}
 use Rattle.ov_rows.specs.Named.{alone, columns_at, DoAscend, IsListed}
 use Rattle.ov_rows.proofs.Names.{entries-columns_at}
 
@@ -36,3 +37,8 @@ module _ (names : List (List ℕ)) (vs : List Datum) (h : IsListed names vs) whe
 
   pub values-columns_at : values (columns_at names vs) ≡ vs
   values-columns_at = ap (map (λ e. e.1)) (entries-columns_at names vs h.0) ∙ values-zip names vs h.1
+
+-- names that are shared, with a value for each
+pub shared-listed : (shared shape : Shape) (names : List (String Global)) (vs : List Datum) → shared ≡ shape → map string_bytes names ≡ shape.names → length vs ≡ length names → DoAscend shape.names → IsListed shared.names vs
+shared-listed shared shape names vs same are as_many in_order =
+    subst (λ (s : Shape). IsListed s.names vs) (sym same) (ascend shape.names vs in_order, as_many ∙ sym (length-map string_bytes names) ∙ ap length are)

@@ -51,12 +51,7 @@ impl BodyReader {
     }
 
     /// So many guessed values, read from the body.
-    fn values(
-        &mut self,
-        alloc: Global,
-        count: usize,
-        body: &[u8],
-    ) -> Result<Vec<Datum>, AtomFault>
+    fn values(&mut self, alloc: Global, count: usize, body: &[u8]) -> Result<Vec<Datum>, AtomFault>
         ensures { IfOk result (λ values. length values.items ≡ count) }
     {
         let Ok(text) = str::from_utf8(body) else {

@@ -15,10 +15,7 @@ pub fn is_own(name: &str) -> bool
 }
 
 /// The names and the defaults of these columns, except those that each row has by itself.
-pub(crate) fn shape_of(
-    alloc: Global,
-    columns: &[(Text, Column)],
-) -> Result<RowShape, AllocError>
+pub(crate) fn shape_of(alloc: Global, columns: &[(Text, Column)]) -> Result<RowShape, AllocError>
     ensures { IfOk result (λ shape. shape ≡ shape_in columns.now) }
 {
     let mut names = Vec::new(alloc);

@@ -109,7 +109,8 @@ fn shape_text(alloc: Global, table: &Table) -> Result<String, Fail> {
     let mut text = String::new(alloc);
     for (name, default) in shape.names().iter().zip(shape.defaults()) {
         push_item(&mut text, name.as_str())?;
-        push_item(&mut text, write_datum(alloc, default)?.to_string(alloc)?.as_str())?;
+        let value = write_datum(alloc, default)?.to_string(alloc)?;
+        push_item(&mut text, value.as_str())?;
     }
     Ok(text)
 }
