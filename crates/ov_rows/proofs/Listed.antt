@@ -1,5 +1,6 @@
 -- Values in a list, each in the column of the name at its place.
-use Rattle.std.proofs.Common.{◌≡◌, ℕ, List, [], ◌∷◌, map, length, zip, String, string_bytes, Global, arith, T, refl, sym, ap, subst, ◌∙◌, length-map}
+use Rattle.std.proofs.Common.{◌≡◌, ℕ, List, [], ◌∷◌, map, length, zip, String, string_bytes, Global, arith, T, refl, sym, ap, subst, ◌∙◌}
+use Rattle.std.proofs.lemmas.List.{length-map}
 use Rattle.std.specs.FinMap.{is_sorted, keys, values}
 use Rattle.std.specs.FinMap.Entries.{below_all}
 use Rattle.ov_specs.specs.schema.SchemaTypes.{name_cmp}
@@ -41,4 +42,4 @@ module _ (names : List (List ℕ)) (vs : List Datum) (h : IsListed names vs) whe
 -- names that are shared, with a value for each
 pub shared-listed : (shared shape : Shape) (names : List (String Global)) (vs : List Datum) → shared ≡ shape → map string_bytes names ≡ shape.names → length vs ≡ length names → DoAscend shape.names → IsListed shared.names vs
 shared-listed shared shape names vs same are as_many in_order =
-    subst (λ (s : Shape). IsListed s.names vs) (sym same) (ascend shape.names vs in_order, as_many ∙ sym (length-map string_bytes names) ∙ ap length are)
+    subst (λ (s : Shape). IsListed s.names vs) (sym same) (ascend shape.names vs in_order, as_many ∙ sym (length-map names string_bytes) ∙ ap length are)
