@@ -1,4 +1,4 @@
-use Rattle.std.proofs.Common.{◌≡◌, ◌+◌, ◌-◌, ◌^◌, ◌<◌, ◌*◌, drop, length, arith, refl, sym, subst, ◌∙◌}
+use Rattle.std.proofs.Common.{◌≡◌, ◌+◌, ◌-◌, ◌^◌, ◌<◌, drop, length, arith, refl, sym, subst, ◌∙◌}
 use Rattle.ov_rows.proofs.Spreading.{AreMarked, none-marked, marked-here, own-here, fits-one_more, fits-none, same-datum}
 use Rattle.ov_rows.proofs.marks.marks_of.Goals as goal
 use Rattle.ov_rows.proofs.marks.marks_of.Goals.{After-eq}

@@ -1,4 +1,4 @@
-use Rattle.std.proofs.Common.{◌-◌, ◌^◌, ◌<◌, ◌≤◌, drop, length}
+use Rattle.std.proofs.Common.{◌-◌, ◌^◌, ◌<◌, drop}
 use Rattle.ov_rows.proofs.Spreading.{AreMarked}
 use Rattle.ov_rows.proofs.marks.marks_of.Given as goal
 
