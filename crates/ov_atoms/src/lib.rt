@@ -1,4 +1,4 @@
-//! Atoms and values, and their JSON form (RFC 7047, 5.1).
+//! Atoms and values, and their JSON form (RFC 7047, 5.1), and what all rows of a table share.
 //!
 //! A value is read from a JSON tree by the kinds of its column alone, or refused, and is written as the one tree that stands
 //! for it. Further constraints of a column are not checked here.

@@ -1,9 +1,8 @@
-//! The small types that contracts see as lists and trees: bytes, texts, names that many share, and JSON trees without reals.
+//! The small types that contracts see as lists and trees: bytes, texts, and JSON trees without reals.
 #![tactic(auto)]
 
 mod byte_trace;
 mod bytes;
-mod column_names;
 mod real;
 mod text;
 mod tree;
@@ -11,7 +10,6 @@ mod trees;
 
 pub use byte_trace::ByteTrace;
 pub use bytes::Bytes;
-pub use column_names::ColumnNames;
 pub use real::has_real;
 pub use text::Text;
 pub use tree::Tree;
