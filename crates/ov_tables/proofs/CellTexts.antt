@@ -5,7 +5,7 @@ use Rattle.sqlite.specs.declared.types.Value.TheVariants.{Int}
 use Rattle.sqlite.specs.Term.{Term, lit, col}
 use Rattle.sqlite_tied.specs.Compute.{everything}
 use Rattle.sqlite.specs.Schema.{Schema}
-use Rattle.sqlite_schema.specs.declared.command.Command.TheVariants.{Insert, Delete, Select}
+use Rattle.sqlite_schema.specs.declared.command.Command.TheVariants.{Insert, Update, Delete, Select}
 use Rattle.sqlite_schema.specs.declared.command.Source.TheVariants.{Values}
 use Rattle.sqlite_resolve.specs.declared.scope.Output.{Output}
 use Rattle.sqlite_resolve.specs.declared.state.Carried.{Carried}
@@ -37,10 +37,10 @@ use Rattle.sqlite_resolve.specs.Program.{program, query}
 use Rattle.sqlite_resolve.specs.Scope.{Context, column}
 use Rattle.sqlite_resolve.specs.Compare.{affinity_of}
 use Rattle.sqlite_resolve.specs.declared.compare.Affinity.TheVariants as affinity
-use Rattle.sqlite_resolve.specs.Write.{deleted, over}
-use Rattle.ov_tables.specs.Tables.{cell_table, cell_insert_text, cell_select_text, cell_clear_text, cell_delete_text}
+use Rattle.sqlite_resolve.specs.Write.{updated, deleted, over}
+use Rattle.ov_tables.specs.Tables.{cell_table, cell_insert_text, cell_select_text, cell_clear_text, cell_delete_text, cell_update_text}
 use Rattle.ov_tables.proofs.TableLemmas.{Stands}
-use Rattle.ov_tables.proofs.Statements.{cell_insert_parsed, cell_select_parsed, cell_clear_parsed, cell_delete_parsed, cell_insert_first, cell_select_first, cell_clear_first, cell_delete_first, cell_selects, numbers, runs, named, shows, source_of, core_of, selection, does, plain_carried, free_carried, within, cell_insert_terms, key_test, key_terms}
+use Rattle.ov_tables.proofs.Statements.{cell_insert_parsed, cell_select_parsed, cell_clear_parsed, cell_delete_parsed, cell_update_parsed, cell_insert_first, cell_select_first, cell_clear_first, cell_delete_first, cell_update_first, cell_selects, numbers, changes, runs, named, shows, source_of, core_of, selection, does, plain_carried, free_carried, within, cell_insert_terms, cell_update_terms, key_test, key_terms, cell_key_test, cell_key_terms}
 
 module _ (schema : Schema) (at l : ℕ) (it : Stands schema (cell_table l) at) where
   abbrev cx : List Output → Bool → Bool → Context
@@ -106,6 +106,14 @@ module _ (schema : Schema) (at l : ℕ) (it : Stands schema (cell_table l) at) w
   unfolding everything
   affinity_two shown a b = refl
 
+  affinity_col : (shown : List Output) (a b : Bool) → affinity_of (cx shown a b) (col 1 3) ≡ affinity.Text
+  unfolding everything
+  affinity_col shown a b = rw it.placed refl
+
+  affinity_three : (shown : List Output) (a b : Bool) → affinity_of (cx shown a b) (col 0 2) ≡ affinity.None
+  unfolding everything
+  affinity_three shown a b = refl
+
   deleted_is : deleted schema at (cell_table l) (Some key_test) ≡ Ok (numbers key_terms l)
   unfolding lowering Rattle.sqlite_resolve.specs.Write.deleted
   deleted_is = rw (column_tbl, affinity_tbl, affinity_one, column_id, affinity_id, affinity_two) refl
@@ -117,6 +125,18 @@ module _ (schema : Schema) (at l : ℕ) (it : Stands schema (cell_table l) at) w
   pub cell_delete_is : understood schema cell_delete_text ≡ Ok (does cell_delete_parsed (Delete at (runs (numbers key_terms l))))
   unfolding lowering understood
   cell_delete_is = rw (cell_delete_first, it.named, it.placed, deleted_is, delete_runs) refl
+
+  updated_is : updated schema at (cell_table l) ((codes "body", expr.Parameter 4) ∷ []) (Some cell_key_test) ≡ Ok (changes cell_key_terms cell_update_terms l)
+  unfolding lowering Rattle.sqlite_resolve.specs.Write.updated
+  updated_is = rw (column_tbl, affinity_tbl, affinity_one, column_id, affinity_id, affinity_two, column_col, affinity_col, affinity_three) refl
+
+  update_runs : program schema [] (changes cell_key_terms cell_update_terms l) ≡ Ok (runs (changes cell_key_terms cell_update_terms l))
+  unfolding everything
+  update_runs = rw (it.not_high, it.alone) refl
+
+  pub cell_update_is : understood schema cell_update_text ≡ Ok (does cell_update_parsed (Update at (runs (changes cell_key_terms cell_update_terms l))))
+  unfolding lowering understood
+  cell_update_is = rw (cell_update_first, it.named, it.placed, updated_is, update_runs) refl
 
   new_rows_is : new_rows schema (cell_table l) 4 (codes "tbl" ∷ codes "id" ∷ codes "col" ∷ codes "body" ∷ []) (rows.Values ((expr.Parameter 1 ∷ expr.Parameter 2 ∷ expr.Parameter 3 ∷ expr.Parameter 4 ∷ []) ∷ [])) ≡ Ok (Values cell_insert_terms 5)
   unfolding everything

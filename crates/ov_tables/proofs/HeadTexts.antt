@@ -5,7 +5,7 @@ use Rattle.sqlite.specs.declared.types.Value.TheVariants.{Int}
 use Rattle.sqlite.specs.Term.{Term, lit, col}
 use Rattle.sqlite_tied.specs.Compute.{everything}
 use Rattle.sqlite.specs.Schema.{Schema}
-use Rattle.sqlite_schema.specs.declared.command.Command.TheVariants.{Insert, Delete, Select}
+use Rattle.sqlite_schema.specs.declared.command.Command.TheVariants.{Insert, Update, Delete, Select}
 use Rattle.sqlite_schema.specs.declared.command.Source.TheVariants.{Values}
 use Rattle.sqlite_resolve.specs.declared.scope.Output.{Output}
 use Rattle.sqlite_resolve.specs.declared.state.Carried.{Carried}
@@ -37,10 +37,10 @@ use Rattle.sqlite_resolve.specs.Program.{program, query}
 use Rattle.sqlite_resolve.specs.Scope.{Context, column}
 use Rattle.sqlite_resolve.specs.Compare.{affinity_of}
 use Rattle.sqlite_resolve.specs.declared.compare.Affinity.TheVariants as affinity
-use Rattle.sqlite_resolve.specs.Write.{deleted, over}
-use Rattle.ov_tables.specs.Tables.{head_table, head_insert_text, head_select_text, head_clear_text, head_delete_text}
+use Rattle.sqlite_resolve.specs.Write.{updated, deleted, over}
+use Rattle.ov_tables.specs.Tables.{head_table, head_insert_text, head_select_text, head_clear_text, head_delete_text, head_update_text}
 use Rattle.ov_tables.proofs.TableLemmas.{Stands}
-use Rattle.ov_tables.proofs.Statements.{head_insert_parsed, head_select_parsed, head_clear_parsed, head_delete_parsed, head_insert_first, head_select_first, head_clear_first, head_delete_first, head_selects, numbers, runs, named, shows, source_of, core_of, selection, does, plain_carried, free_carried, within, head_insert_terms, key_test, key_terms}
+use Rattle.ov_tables.proofs.Statements.{head_insert_parsed, head_select_parsed, head_clear_parsed, head_delete_parsed, head_update_parsed, head_insert_first, head_select_first, head_clear_first, head_delete_first, head_update_first, head_selects, numbers, changes, runs, named, shows, source_of, core_of, selection, does, plain_carried, free_carried, within, head_insert_terms, head_update_terms, key_test, key_terms}
 
 module _ (schema : Schema) (at l : ℕ) (it : Stands schema (head_table l) at) where
   abbrev cx : List Output → Bool → Bool → Context
@@ -109,6 +109,18 @@ module _ (schema : Schema) (at l : ℕ) (it : Stands schema (head_table l) at) w
   pub head_delete_is : understood schema head_delete_text ≡ Ok (does head_delete_parsed (Delete at (runs (numbers key_terms l))))
   unfolding lowering understood
   head_delete_is = rw (head_delete_first, it.named, it.placed, deleted_is, delete_runs) refl
+
+  updated_is : updated schema at (head_table l) ((codes "ver", expr.Parameter 3) ∷ []) (Some key_test) ≡ Ok (changes key_terms head_update_terms l)
+  unfolding lowering Rattle.sqlite_resolve.specs.Write.updated
+  updated_is = rw (column_tbl, affinity_tbl, affinity_one, column_id, affinity_id, affinity_two) refl
+
+  update_runs : program schema [] (changes key_terms head_update_terms l) ≡ Ok (runs (changes key_terms head_update_terms l))
+  unfolding everything
+  update_runs = rw (it.not_high, it.alone) refl
+
+  pub head_update_is : understood schema head_update_text ≡ Ok (does head_update_parsed (Update at (runs (changes key_terms head_update_terms l))))
+  unfolding lowering understood
+  head_update_is = rw (head_update_first, it.named, it.placed, updated_is, update_runs) refl
 
   new_rows_is : new_rows schema (head_table l) 3 (codes "tbl" ∷ codes "id" ∷ codes "ver" ∷ []) (rows.Values ((expr.Parameter 1 ∷ expr.Parameter 2 ∷ expr.Parameter 3 ∷ []) ∷ [])) ≡ Ok (Values head_insert_terms 4)
   unfolding everything

@@ -30,7 +30,8 @@ use Rattle.ov_tables.proofs.ListingLemmas.{Touches, stands_in, rows_are, rows_af
 use Rattle.ov_tables.proofs.Statements.{does, meta_insert_terms, head_insert_terms, cell_insert_terms}
 use Rattle.ov_tables.proofs.DeleteLemmas.{went, same_value, at_placed}
 
-either : (b : Bool) (x : Value) → cond b x x ≡ x
+-- a choice between a value and itself
+pub either : (b : Bool) (x : Value) → cond b x x ≡ x
 either true x = refl
 either false x = refl
 

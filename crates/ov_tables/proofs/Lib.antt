@@ -11,6 +11,8 @@ pub mod RowLemmas
 pub mod DeleteLemmas
 pub mod RemoveLemmas
 pub mod InsertLemmas
+pub mod UpdateLemmas
+pub mod RenewLemmas
 pub mod KeepLemmas
 pub mod ReadLemmas
 pub mod EachLemmas

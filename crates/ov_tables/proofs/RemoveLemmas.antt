@@ -108,11 +108,29 @@ Together p rows = AllByRecursion (λ r. AllByRecursion (λ s. same s r ≡ true 
 abbrev pub Gives : List Row → List Row → Type 0
 Gives rows gone = (ordered : List Output) × IsPermutation (map (λ r. ([], rowid r ∷ [])) rows) ordered × (gone ≡ map (λ o. o.1) ordered)
 
+-- what a query gave of the numbers of these rows, and after each what f makes of its row
+abbrev pub GivesWith : (Row → Row) → List Row → List Row → Type 0
+GivesWith f rows given = (ordered : List Output) × IsPermutation (map (λ r. ([], rowid r ∷ f r)) rows) ordered × (given ≡ map (λ o. o.1) ordered)
+
+-- without the numbers that a query gave, the rows are those that did not pass
+pub left_with : (p : Row → Bool) (f : Row → Row) (rows given : List Row) → AllByRecursion HasNumber rows → Together p rows → GivesWith f (filter p rows) given
+    → without_all rows (ids_of given) ≡ filter (λ r. not (p r)) rows
+left_with p f rows given numbers together same =
+    without_all_filter (ids_of given) rows
+    ∙ filter_same _ _ rows (all_weaker _ _ (λ r e. ap not (taken p f rows given same.0 r same.1 same.2 ∙ e)) rows (hit_once p rows numbers together))
+
 -- the rows that are left are those that did not pass
 left_rows : (p : Row → Bool) (rows gone : List Row) → AllByRecursion HasNumber rows → Together p rows → Gives (filter p rows) gone → without_all rows (ids_of gone) ≡ filter (λ r. not (p r)) rows
-left_rows p rows gone numbers together same =
-    without_all_filter (ids_of gone) rows
-    ∙ filter_same _ _ rows (all_weaker _ _ (λ r e. ap not (taken p (λ _. []) rows gone same.0 r same.1 same.2 ∙ e)) rows (hit_once p rows numbers together))
+left_rows p rows gone numbers together same = left_with p (λ _. []) rows gone numbers together same
+
+-- rows pass together where a test of what they are decides, and a number names what a row is
+pub together_by : {X : Type 0} (is : Row → X) (q : X → Bool) (p : Row → Bool) (rows : List Row) → AllByRecursion HasNumber rows → AllByRecursion (λ r. p r ≡ q (is r)) rows → IsNumbered is rows → Together p rows
+together_by is q p rows numbers tests numbered =
+    let both = all_both _ _ (λ r. HasNumber r × (p r ≡ q (is r))) (λ r n t. (n, t)) rows numbers tests in
+    all_both _ _ _ (λ r m ones. all_both _ _ _ (λ s l one. one_test s r l m one) rows both ones) rows both numbered
+  where
+    one_test : (s r : Row) → HasNumber s × (p s ≡ q (is s)) → HasNumber r × (p r ≡ q (is r)) → (column s 0 ≡ column r 0 → is s ≡ is r) → same s r ≡ true → p s ≡ p r
+    one_test s r l m one h = l.1 ∙ ap q (one (same_equal s r l.0 m.0 h)) ∙ sym m.1
 
 keyed_together : (k : LineKey) (s r : Row) → IsKeyed s → IsKeyed r → (column s 0 ≡ column r 0 → row_key s ≡ row_key r) → same s r ≡ true → passes k s ≡ passes k r
 keyed_together k s r l m one h = passes_key k s l ∙ ap (eq_by_cmp line_cmp k) (one (same_equal s r (keyed_number s l) (keyed_number r m) h)) ∙ sym (passes_key k r m)

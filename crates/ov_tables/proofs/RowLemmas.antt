@@ -21,8 +21,9 @@ use Rattle.sqlite_sql.specs.declared.ops.BinaryOp.TheVariants.{Compare}
 use Rattle.sqlite_sql.specs.declared.ops.CompareOp.TheVariants.{Eq}
 use Rattle.sqlite.specs.Collation.TheVariants.{Binary}
 use Rattle.ov_specs.specs.rows.Lines.{LineKey, line_cmp}
-use Rattle.ov_tables.specs.Format.{HasNumber, IsKeyed, row_key}
-use Rattle.ov_tables.proofs.Statements.{key_terms}
+use Rattle.ov_specs.specs.schema.SchemaTypes.{name_cmp}
+use Rattle.ov_tables.specs.Format.{HasNumber, IsKeyed, IsCell, row_key}
+use Rattle.ov_tables.proofs.Statements.{key_terms, cell_key_terms}
 use Rattle.ov_specs.proofs.laws.Truths.{equal_is}
 
 -- the row passes the tests of the key
@@ -66,6 +67,26 @@ pub passes_key : (k : LineKey) (r : Row) → IsKeyed r → passes k r ≡ has_ke
 passes_key k r l =
     and_true _ _ ∙ ap₂ ◌&&◌ (equal_to_text (column r 1) l.tbl k.0 l.tbl_is) (equal_to_blob (column r 2) l.id k.1 l.id_is)
     ∙ sym (is_eq_then (slice_cmp nat_cmp k.0 (bytes (column r 1))) (slice_cmp nat_cmp k.1 (bytes (column r 2))))
+
+-- the row passes the tests of the key of a cell, in a statement that has more parameters
+abbrev pub passes_cell : LineKey → List ℕ → Row → Row → Bool
+passes_cell k name more r = list_all (holds ((Text k.0 ∷ Blob k.1 ∷ Text name ∷ more) ∷ r ∷ [])) cell_key_terms
+
+-- the row is the cell of this column in the row of this key
+abbrev pub is_cell_at : LineKey → List ℕ → Row → Bool
+is_cell_at k name r = has_key k r && eq_by_cmp name_cmp name (bytes (column r 3))
+
+-- a test after two others
+and_last : (a b c d : Bool) → (a && (b && true)) ≡ d → (a && (b && (c && true))) ≡ (d && c)
+and_last true true true d e = ap (λ x. x && true) e
+and_last true true false d e = ap (λ x. x && false) e
+and_last true false c d e = ap (λ x. x && c) e
+and_last false b c d e = ap (λ x. x && c) e
+
+-- which ask for that cell
+pub passes_cell_at : (k : LineKey) (name : List ℕ) (more r : Row) → IsCell r → passes_cell k name more r ≡ is_cell_at k name r
+passes_cell_at k name more r is =
+    and_last _ _ _ _ (passes_key k r is.keyed) ∙ ap (λ b. has_key k r && b) (equal_to_text (column r 3) is.col name is.col_is)
 
 same_int : (m n : ℤ) → is_eq (int_cmp m n) ≡ true → m ≡ n
 same_int m n h = int_cmp-IsAntisymmetric m n (equal_is _ h)

@@ -30,7 +30,7 @@ use Rattle.sqlite_ast.specs.declared.Statement.TheVariants as written
 use Rattle.sqlite_resolve.specs.Compile.{first}
 use Rattle.sqlite_resolve.specs.Scope.{Context}
 use Rattle.sqlite_draft.specs.declared.query.Draft.{Draft}
-use Rattle.ov_tables.specs.Tables.{meta_insert_text, meta_select_text, meta_clear_text, line_select_text, line_clear_text, head_insert_text, head_select_text, head_clear_text, head_delete_text, cell_insert_text, cell_select_text, cell_clear_text, cell_delete_text}
+use Rattle.ov_tables.specs.Tables.{meta_insert_text, meta_select_text, meta_clear_text, line_select_text, line_clear_text, head_insert_text, head_select_text, head_clear_text, head_delete_text, head_update_text, cell_insert_text, cell_select_text, cell_clear_text, cell_delete_text, cell_update_text}
 
 abbrev pub named : List ℕ → Expr
 named name = expr.Column None name
@@ -40,6 +40,9 @@ equals a b = expr.Binary binary.Eq a b
 
 abbrev pub key_test : Expr
 key_test = expr.Binary binary.And (equals (named (codes "tbl")) (expr.Parameter 1)) (equals (named (codes "id")) (expr.Parameter 2))
+
+abbrev pub cell_key_test : Expr
+cell_key_test = expr.Binary binary.And key_test (equals (named (codes "col")) (expr.Parameter 3))
 
 abbrev pub shows : List ℕ → Shown
 shows name = shown.One (named name) None name
@@ -123,6 +126,13 @@ pub head_delete_first : first head_delete_text ≡ Ok head_delete_parsed
 unfolding everything
 head_delete_first = refl
 
+abbrev pub head_update_parsed : Parsed
+head_update_parsed = record { statement = written.Update (codes "head") ((codes "ver", expr.Parameter 3) ∷ []) (Some key_test) []; names = codes "?1" ∷ codes "?2" ∷ codes "?3" ∷ []; formats = []; start = 0; end = 45; tail = 45 }
+
+pub head_update_first : first head_update_text ≡ Ok head_update_parsed
+unfolding everything
+head_update_first = refl
+
 abbrev pub cell_insert_parsed : Parsed
 cell_insert_parsed = record { statement = written.Insert conflict.Abort (codes "cell") (codes "tbl" ∷ codes "id" ∷ codes "col" ∷ codes "body" ∷ []) (rows.Values ((expr.Parameter 1 ∷ expr.Parameter 2 ∷ expr.Parameter 3 ∷ expr.Parameter 4 ∷ []) ∷ [])) [] []; names = codes "?1" ∷ codes "?2" ∷ codes "?3" ∷ codes "?4" ∷ []; formats = []; start = 0; end = 53; tail = 53 }
 
@@ -150,6 +160,13 @@ cell_delete_parsed = record { statement = written.Delete (codes "cell") (Some ke
 pub cell_delete_first : first cell_delete_text ≡ Ok cell_delete_parsed
 unfolding everything
 cell_delete_first = refl
+
+abbrev pub cell_update_parsed : Parsed
+cell_update_parsed = record { statement = written.Update (codes "cell") ((codes "body", expr.Parameter 4) ∷ []) (Some cell_key_test) []; names = codes "?1" ∷ codes "?2" ∷ codes "?3" ∷ codes "?4" ∷ []; formats = []; start = 0; end = 57; tail = 57 }
+
+pub cell_update_first : first cell_update_text ≡ Ok cell_update_parsed
+unfolding everything
+cell_update_first = refl
 
 -- a statement that was parsed, with what it asks for
 abbrev pub does : Parsed → Command → Compiled
@@ -183,9 +200,17 @@ within schema at name shown aggregate alias = record { schema = schema; levels =
 abbrev pub key_terms : List Term
 key_terms = op2 (Compare Eq Binary) (col 1 1) (col 0 0) ∷ op2 (Compare Eq Binary) (col 1 2) (col 0 1) ∷ []
 
+-- the three tests of the key of a cell
+abbrev pub cell_key_terms : List Term
+cell_key_terms = op2 (Compare Eq Binary) (col 1 1) (col 0 0) ∷ op2 (Compare Eq Binary) (col 1 2) (col 0 1) ∷ op2 (Compare Eq Binary) (col 1 3) (col 0 2) ∷ []
+
 -- the number of each row that passes these tests
 abbrev pub numbers : List Term → ℕ → Draft
 numbers tests tree = drafts tree tests (col 1 0 ∷ [])
+
+-- the number of each row that passes these tests, and after it the row that these terms make of it
+abbrev pub changes : List Term → List Term → ℕ → Draft
+changes tests terms tree = drafts tree tests (col 1 0 ∷ terms)
 
 -- the program of one query
 abbrev pub runs : Draft → Program
@@ -209,9 +234,17 @@ head_selects tree = drafts tree [] (col 1 0 ∷ col 1 1 ∷ col 1 2 ∷ col 1 3 
 abbrev pub head_insert_terms : List Term
 head_insert_terms = lit Null ∷ col 0 0 ∷ col 0 1 ∷ col 0 2 ∷ []
 
+-- a row of `head` with another version
+abbrev pub head_update_terms : List Term
+head_update_terms = col 1 0 ∷ col 1 1 ∷ col 1 2 ∷ col 0 2 ∷ []
+
 -- what is read of `cell`
 abbrev pub cell_selects : ℕ → Draft
 cell_selects tree = drafts tree [] (col 1 0 ∷ col 1 1 ∷ col 1 2 ∷ col 1 3 ∷ col 1 4 ∷ [])
 
 abbrev pub cell_insert_terms : List Term
 cell_insert_terms = lit Null ∷ col 0 0 ∷ col 0 1 ∷ col 0 2 ∷ col 0 3 ∷ []
+
+-- a row of `cell` with another body
+abbrev pub cell_update_terms : List Term
+cell_update_terms = col 1 0 ∷ col 1 1 ∷ col 1 2 ∷ col 1 3 ∷ col 0 3 ∷ []

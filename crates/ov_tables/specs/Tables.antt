@@ -210,6 +210,9 @@ head_insert_text = codes "INSERT INTO head(tbl,id,ver) VALUES(?1,?2,?3)"
 abbrev pub head_delete_text : List ℕ
 head_delete_text = codes "DELETE FROM head WHERE tbl=?1 AND id=?2"
 
+abbrev pub head_update_text : List ℕ
+head_update_text = codes "UPDATE head SET ver=?3 WHERE tbl=?1 AND id=?2"
+
 abbrev pub head_select_text : List ℕ
 head_select_text = codes "SELECT rowid,tbl,id,ver FROM head"
 
@@ -221,6 +224,9 @@ cell_insert_text = codes "INSERT INTO cell(tbl,id,col,body) VALUES(?1,?2,?3,?4)"
 
 abbrev pub cell_delete_text : List ℕ
 cell_delete_text = codes "DELETE FROM cell WHERE tbl=?1 AND id=?2"
+
+abbrev pub cell_update_text : List ℕ
+cell_update_text = codes "UPDATE cell SET body=?4 WHERE tbl=?1 AND id=?2 AND col=?3"
 
 abbrev pub cell_select_text : List ℕ
 cell_select_text = codes "SELECT rowid,tbl,id,col,body FROM cell"
