@@ -1,5 +1,5 @@
 -- A head that gets another version, and a cell that gets another body.
-use Rattle.std.proofs.Common.{◌≡◌, ℕ, ℤ, List, [], ◌∷◌, map, filter, length, cond, Bool, true, false, ◌&&◌, ◌||◌, Ok, refl, sym, ap, ap₂, ◌∙◌}
+use Rattle.std.proofs.Common.{◌≡◌, ℕ, ℤ, List, [], ◌∷◌, map, filter, find, length, cond, Bool, true, false, ◌&&◌, ◌||◌, Some, Ok, option_map, refl, sym, ap, ap₂, ◌∙◌}
 use Rattle.std.specs.List.{AllByRecursion, list_any}
 use Rattle.std.specs.List.Sorted.{IsPermutation}
 use Rattle.std.proofs.lemmas.List.Sorted.{IsPermutation-trans}
@@ -10,7 +10,7 @@ use Rattle.sqlite.specs.Order.{Row, column}
 use Rattle.sqlite.specs.Ops.{unary}
 use Rattle.sqlite.specs.Kind.TheVariants as kind
 use Rattle.sqlite.specs.Cast.{cast}
-use Rattle.sqlite_trees.proofs.ListLemmas.{filter_same, map-map, all_weaker, all-map, all-permutation, IsPermutation-same}
+use Rattle.sqlite_trees.proofs.ListLemmas.{filter_same, all_weaker, all-map, all-permutation, IsPermutation-same}
 use Rattle.sqlite.specs.Effect.{IsDatabase}
 use Rattle.sqlite.specs.State.{State, Executes}
 use Rattle.ov_specs.specs.rows.Lines.{LineKey, line_cmp}
@@ -122,6 +122,25 @@ cell_key_stays k name b r = elim (is_cell_at k name r) as (λ a. row_key (cond a
 pub keys_stay : (k : LineKey) (v : List ℕ) (q : LineKey) (rows : List Row) → list_any (has_key q) (heads_with k v rows) ≡ list_any (has_key q) rows
 keys_stay k v q [] = refl
 keys_stay k v q (r ∷ rows) = ap₂ (λ a b. a || b) (ap (eq_by_cmp line_cmp q) (head_key_stays k v r)) (keys_stay k v q rows)
+
+-- what is found among changed rows is what becomes of the row that was found before
+found_with : (p : Row → Bool) (g : Row → Row) → ((r : Row) → p (g r) ≡ p r) → (rows : List Row) → find p (map g rows) ≡ option_map g (find p rows)
+found_with p g same [] = refl
+found_with p g same (r ∷ rows) = go (p (g r)) (p r) (same r) (found_with p g same rows)
+  where
+    go : (a b : Bool) → a ≡ b → find p (map g rows) ≡ option_map g (find p rows) → cond a (Some (g r)) (find p (map g rows)) ≡ option_map g (cond b (Some r) (find p rows))
+    go a true e later = rw e refl
+    go a false e later = rw e later
+
+-- the head of each key is found as before
+pub heads_found : (k : LineKey) (v : List ℕ) (q : LineKey) (rows : List Row) → find (has_key q) (heads_with k v rows) ≡ option_map (renewed (has_key k) (with_version v)) (find (has_key q) rows)
+heads_found k v q = found_with (has_key q) (renewed (has_key k) (with_version v)) (λ r. ap (eq_by_cmp line_cmp q) (head_key_stays k v r))
+
+-- and so is the cell of each key and column
+pub cells_found : (k : LineKey) (name b : List ℕ) (q : LineKey) (n : List ℕ) (rows : List Row) → find (is_cell_at q n) (cells_with k name b rows) ≡ option_map (renewed (is_cell_at k name) (with_body b)) (find (is_cell_at q n) rows)
+cells_found k name b q n =
+    found_with (is_cell_at q n) (renewed (is_cell_at k name) (with_body b))
+    (λ r. elim (is_cell_at k name r) as (λ a. is_cell_at q n (cond a (with_body b r) r) ≡ is_cell_at q n r) [ true ↦ refl | false ↦ refl ])
 
 -- the line that such a head is
 head_is : (k : LineKey) (v : List ℕ) (r : Row) → head_of (renewed (has_key k) (with_version v) r) ≡ head_with k v (head_of r)

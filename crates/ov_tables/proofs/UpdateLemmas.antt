@@ -1,5 +1,5 @@
 -- What an UPDATE does to its table.
-use Rattle.std.proofs.Common.{◌≡◌, ◌⊎◌, inl, inr, ℕ, ◌<◌, ℤ, List, [], ◌∷◌, ◌++◌, map, filter, drop, length, cond, Bool, true, false, not, ◌||◌, None, Some, Ok, unwrap_or, refl, sym, ap, ap₂, subst, subst₂, ◌∙◌, append-nil, true≢false, arith}
+use Rattle.std.proofs.Common.{◌≡◌, inl, inr, ℕ, ◌<◌, List, [], ◌∷◌, ◌++◌, map, filter, drop, length, cond, Bool, true, false, not, ◌||◌, Ok, unwrap_or, refl, sym, ap, ap₂, subst, subst₂, ◌∙◌, append-nil, true≢false, arith}
 use Rattle.std.specs.List.{AllByRecursion, list_any}
 use Rattle.std.specs.List.Sorted.{IsPermutation}
 use Rattle.std.proofs.lemmas.Bool.{and_parts, or_parts, not-true}
@@ -11,7 +11,7 @@ use Rattle.std.specs.Ordering.{is_eq, match_ordering, ordering_reverse}
 use Rattle.std.proofs.lemmas.Cmp.{tied_itself}
 use Rattle.sqlite.specs.declared.types.Value.TheVariants.{Null}
 use Rattle.sqlite.specs.Order.{Row, value_cmp}
-use Rattle.sqlite.specs.Term.{Term, col}
+use Rattle.sqlite.specs.Term.{Term}
 use Rattle.sqlite_sql.specs.Term.{eval_all}
 use Rattle.sqlite.specs.Query.{IsAnswer, output, Output}
 use Rattle.sqlite.specs.Program.{overlay}
@@ -54,7 +54,7 @@ made table terms params r = cast_row table (eval_all terms (params ∷ r ∷ [])
 abbrev pub renewed : (Row → Bool) → (Row → Row) → Row → Row
 renewed p f r = cond (p r) (f r) r
 
--- what is put in, of what a query gave: the number is not part of the row
+-- what is put in, of what a query gave: the row after each number, as the columns take it
 abbrev pub cast_given : Table → List Row → List Row
 cast_given table = map (λ s. cast_row table (drop 1 s))
 
