@@ -189,26 +189,26 @@ same_after all hs key (r ∷ rs) h up held same =
 
 module _ (schema : Schema) (all : List (LineKey × KeySet)) where
   -- the row is in a root table or has another row among its holders
-  abbrev pub is_kept : LineKey × Row → Bool
-  is_kept r = is_in_root_table schema r.0 || held_in all r.0
+  abbrev pub is_root_or_held : LineKey × Row → Bool
+  is_root_or_held r = is_in_root_table schema r.0 || held_in all r.0
 
-  kept_each : (rs : List (LineKey × Row)) (hs : List (LineKey × KeySet)) → T (is_sorted line_cmp rs) → T (is_sorted line_cmp hs) → AreSameIn all hs rs → are_supported schema rs hs ≡ list_all is_kept rs
+  kept_each : (rs : List (LineKey × Row)) (hs : List (LineKey × KeySet)) → T (is_sorted line_cmp rs) → T (is_sorted line_cmp hs) → AreSameIn all hs rs → are_supported schema rs hs ≡ list_all is_root_or_held rs
   kept_each [] hs sorted h same = refl
   kept_each (r ∷ rs) hs sorted h same = by_root (is_in_root_table schema r.0) (kept_each rs)
     where
       Later : Type 0
-      Later = (hs : List (LineKey × KeySet)) → T (is_sorted line_cmp rs) → T (is_sorted line_cmp hs) → AreSameIn all hs rs → are_supported schema rs hs ≡ list_all is_kept rs
+      Later = (hs : List (LineKey × KeySet)) → T (is_sorted line_cmp rs) → T (is_sorted line_cmp hs) → AreSameIn all hs rs → are_supported schema rs hs ≡ list_all is_root_or_held rs
 
       held : is_held r.0 hs ≡ held_in all r.0
       held = held_found r.0 hs ∙ ap (is_some_and (has_another r.0)) same.0
 
-      by_held : (b : Bool) → is_held r.0 hs ≡ b → Later → (b && are_supported schema rs (past r.0 hs)) ≡ (b && list_all is_kept rs)
+      by_held : (b : Bool) → is_held r.0 hs ≡ b → Later → (b && are_supported schema rs (past r.0 hs)) ≡ (b && list_all is_root_or_held rs)
       by_held true is later = later (past r.0 hs) (right_holds _ _ sorted) (sorted-after r.0 hs h) (same_after all hs r.0 rs h (left_holds _ _ sorted) is same.1)
       by_held false is later = refl
 
-      by_root : (b : Bool) → Later → cond b (are_supported schema rs hs) (is_held r.0 hs && are_supported schema rs (past r.0 hs)) ≡ ((b || held_in all r.0) && list_all is_kept rs)
+      by_root : (b : Bool) → Later → cond b (are_supported schema rs hs) (is_held r.0 hs && are_supported schema rs (past r.0 hs)) ≡ ((b || held_in all r.0) && list_all is_root_or_held rs)
       by_root true later = later hs (right_holds _ _ sorted) h same.1
-      by_root false later = by_held (is_held r.0 hs) refl later ∙ ap (λ b. b && list_all is_kept rs) held
+      by_root false later = by_held (is_held r.0 hs) refl later ∙ ap (λ b. b && list_all is_root_or_held rs) held
 
 -- the rows of a root table are skipped
 pub root_table : (schema : Schema) (name : List ℕ) (es : List (Uuid × Row)) (rest : List (LineKey × Row)) (hs : List (LineKey × KeySet)) → is_some_and (λ table. table.is_root) (get schema.tables name) ≡ true

@@ -1,6 +1,6 @@
 -- The bytes of a reply whose result is an array, and those of the reply with one more item.
 use Rattle.std.proofs.Common.{◌≡◌, ◌↔◌, not, ℕ, ◌+◌, ◌-◌, List, [], ◌∷◌, ◌++◌, Bool, true, false, true≢false, length, take, refl, sym, ap, ◌∙◌, codes, IsTrue, arith, if◌then◌else◌}
-use Rattle.std.proofs.lemmas.List.{append_assoc, append-nil, length-append}
+use Rattle.std.proofs.lemmas.List.{append_assoc, length-append}
 use Rattle.std.proofs.Math.Seq.{take-append_seam}
 use Rattle.serde_json.specs.Data.{Data, null, string, Items, no_items, item, array}
 use Rattle.serde_json.specs.Written.{compact_text, comma_if}

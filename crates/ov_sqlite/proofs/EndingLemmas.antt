@@ -1,5 +1,5 @@
 -- How a reading of the tables ends: with what was read, with malformed tables, or with a fault that is passed on.
-use Rattle.std.proofs.Common.{◌≡◌, Result, Ok, Err, IsTrue}
+use Rattle.std.proofs.Common.{Ok, Err, IsTrue}
 use Rattle.sqlite.specs.Effect.{Database}
 use Rattle.sqlite.specs.State.{State, HasCleanDisk, Survives}
 use Rattle.ov_keeper.specs.declared.fault.KeepFault.{KeepFault}

@@ -2,7 +2,7 @@
 use Rattle.std.proofs.Common.{◌≡◌, ℕ, List, cond, Bool, true, false, Option, Some, None, IfSome, option_map, refl, sym, ap, subst, ◌∙◌}
 use Rattle.std.specs.Ordering.{eq_by_cmp}
 use Rattle.std.specs.Cmp.{eq_by_cmp_equiv}
-use Rattle.std.specs.FinMap.{empty, get, insert, remove, from_entries, get-from_entries, get-insert, same_map, from_entries_push}
+use Rattle.std.specs.FinMap.{empty, get, insert, remove, get-insert, same_map}
 use Rattle.ov_specs.specs.rows.Lines.{LineKey, line_cmp}
 use Rattle.ov_specs.specs.rows.Cells.{CellLine, CellLines, Cells}
 use Rattle.ov_specs.proofs.laws.LineKeys.{key_total, key_exact, tied_same, same_tied}

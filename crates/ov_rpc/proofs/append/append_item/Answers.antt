@@ -1,4 +1,4 @@
-use Rattle.std.proofs.Common.{rules, ◌≡◌, ◌-◌, ◌++◌, ◌∷◌, [], ap, ◌∙◌, length, take, if◌then◌else◌, IsTrue}
+use Rattle.std.proofs.Common.{rules, ◌≡◌, ◌-◌, ◌++◌, ◌∷◌, [], ap, ◌∙◌, length, take, if◌then◌else◌}
 use Rattle.serde_json.specs.Written.{compact_text}
 use Rattle.ov_rpc.proofs.Appending.{opened, appended}
 use Rattle.ov_rpc.proofs.append.append_item.Goals as goal

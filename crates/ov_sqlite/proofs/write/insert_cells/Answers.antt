@@ -1,7 +1,6 @@
 use Rattle.ov_keeper.specs.declared.cell_line.Cell.{Cell}
 use Rattle.std.proofs.Common.{◌≡◌, ◌≤◌, ◌-◌, ℕ, [], ◌∷◌, ◌++◌, ◌+◌, ◌∙◌, map, length, take, drop, get_or, ap, sym, subst, arith, List}
 use Rattle.std.proofs.lemmas.List.{map-append, take-append-drop, take_all, length-drop}
-use Rattle.std.specs.FinMap.{empty}
 use Rattle.sqlite.specs.State.{HasCleanDisk}
 use Rattle.sqlite.specs.Held.{state}
 use Rattle.ov_specs.specs.rows.Lines.{LineKey}

@@ -1,4 +1,4 @@
-use Rattle.std.proofs.Common.{T, ◌∷◌, [], map, refl, true, ap, sym, subst, ◌∙◌}
+use Rattle.std.proofs.Common.{T, ◌∷◌, [], map, refl, ap, sym, subst, ◌∙◌}
 use Rattle.std.specs.FinMap.{is_sorted, insert}
 use Rattle.ov_specs.specs.rows.Lines.{line_cmp}
 use Rattle.ov_refs.specs.Holding.{KeySet, marked, set_of_keys}
