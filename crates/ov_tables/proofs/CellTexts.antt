@@ -38,9 +38,9 @@ use Rattle.sqlite_resolve.specs.Scope.{Context, column}
 use Rattle.sqlite_resolve.specs.Compare.{affinity_of}
 use Rattle.sqlite_resolve.specs.declared.compare.Affinity.TheVariants as affinity
 use Rattle.sqlite_resolve.specs.Write.{updated, deleted, over}
-use Rattle.ov_tables.specs.Tables.{cell_table, cell_insert_text, cell_select_text, cell_clear_text, cell_delete_text, cell_update_text}
+use Rattle.ov_tables.specs.Tables.{cell_table, cell_insert_text, cell_select_text, cell_clear_text, cell_delete_text, cell_update_text, cells_of_text}
 use Rattle.ov_tables.proofs.TableLemmas.{Stands}
-use Rattle.ov_tables.proofs.Statements.{cell_insert_parsed, cell_select_parsed, cell_clear_parsed, cell_delete_parsed, cell_update_parsed, cell_insert_first, cell_select_first, cell_clear_first, cell_delete_first, cell_update_first, cell_selects, numbers, changes, runs, named, shows, source_of, core_of, selection, does, plain_carried, free_carried, within, cell_insert_terms, cell_update_terms, key_test, key_terms, cell_key_test, cell_key_terms}
+use Rattle.ov_tables.proofs.Statements.{cell_insert_parsed, cell_select_parsed, cell_clear_parsed, cell_delete_parsed, cell_update_parsed, cell_insert_first, cell_select_first, cell_clear_first, cell_delete_first, cell_update_first, cell_selects, numbers, changes, runs, named, shows, source_of, core_of, selection, does, plain_carried, free_carried, within, cell_insert_terms, cell_update_terms, key_test, key_terms, cell_key_test, cell_key_terms, core_where, selection_of, cells_of_parsed, cells_of_first, key_selects}
 
 module _ (schema : Schema) (at l : ℕ) (it : Stands schema (cell_table l) at) where
   abbrev cx : List Output → Bool → Bool → Context
@@ -255,3 +255,81 @@ module _ (schema : Schema) (at l : ℕ) (it : Stands schema (cell_table l) at) w
   pub cell_select_listed : reads_listing schema cell_select_text ≡ false
   unfolding lowering Rattle.sqlite_resolve.specs.Compile.read
   cell_select_listed = rw (cell_select_first, select_drafts, select_runs) refl
+
+  -- ---- the cells of a key
+
+  abbrev key_columns : List Shown
+  key_columns = shows (codes "col") ∷ shows (codes "body") ∷ []
+
+  abbrev key_core : ast_core.Core
+  key_core = core_where key_columns (codes "cell") (Some key_test)
+
+  abbrev key_outs : List Output
+  key_outs = out (codes "col") 3 plain_carried ∷ out (codes "body") 4 plain_carried ∷ []
+
+  key_result : result lower (outermost schema) (level []) key_core (fresh 2 max_budget) ≡ Ok (key_outs, after 2)
+  unfolding lowering
+  key_result = rw (column_col, heading_col, column_body, heading_body) refl
+
+  abbrev tested : State
+  tested = record { next = 2; steps = []; aggregates = []; budget = max_budget - 9; written = None; last = free_carried }
+
+  key_matching : matching lower (outermost schema) (level key_outs) key_core (after 2) ≡ Ok (record { steps = Inner l ∷ []; filter = key_terms }, tested)
+  unfolding lowering
+  key_matching = rw (it.placed, column_tbl, affinity_tbl, affinity_one, column_id, affinity_id, affinity_two) refl
+
+  abbrev key_whole : Body
+  key_whole = record { level = level key_outs; steps = Inner l ∷ []; filter = key_terms }
+
+  key_body : body lower (outermost schema) key_core (fresh 1 max_budget) ≡ Ok (key_whole, tested)
+  unfolding written_parts Rattle.sqlite_resolve.specs.Body.body
+  key_body = rw (bounds_is, key_result, key_matching) refl
+
+  abbrev key_clauses : Clauses
+  key_clauses = record { body = key_whole; is_grouped = false; keys = []; collations = []; having = []; order = [] }
+
+  key_parts : parts schema key_core [] (fresh 1 max_budget) ≡ Ok (key_clauses, tested)
+  unfolding written_parts Rattle.sqlite_resolve.specs.Select.parts Rattle.sqlite_resolve.specs.Order.keys Rattle.sqlite_resolve.specs.Order.sorts Rattle.sqlite_resolve.specs.Select.having Rattle.sqlite_resolve.specs.Body.tests
+  key_parts = rw key_body refl
+
+  abbrev key_names : List (List ℕ)
+  key_names = codes "col" ∷ codes "body" ∷ []
+
+  abbrev key_carried : List (Option Collation)
+  key_carried = Some Binary ∷ Some Binary ∷ []
+
+  key_named : resolved.named schema key_core [] page ≡ Ok (key_selects l, key_names, key_carried)
+  unfolding written_parts Rattle.sqlite_resolve.specs.Select.named Rattle.sqlite_resolve.specs.Select.assembled Rattle.sqlite_resolve.specs.Select.ungrouped
+  key_named = rw key_parts refl
+
+  key_viewing : (q : Schema → ast_select.Select → Building Query) → viewing q schema key_core [] page 64 schema [] ≡ Ok (((key_selects l, key_names, key_carried), schema), [])
+  unfolding Rattle.sqlite_resolve.specs.Program.viewing
+  key_viewing q = subst (λ r. or_view q (viewing q schema key_core [] page 63) schema schema r [] ≡ Ok (((key_selects l, key_names, key_carried), schema), [])) (sym key_named) refl
+
+  key_alone : (q : Schema → ast_select.Select → Building Query) → alone q schema key_core [] page [] ≡ Ok ((key_selects l, key_names, key_carried), [])
+  unfolding written_parts Rattle.sqlite_resolve.specs.Program.alone Rattle.sqlite_resolve.specs.Program.single Rattle.sqlite_resolve.specs.Program.sources Rattle.sqlite_resolve.specs.Program.source
+  key_alone q = rw key_viewing refl
+
+  key_paging : paging schema (selection_of key_core) ≡ Ok page
+  unfolding lowering
+  key_paging = refl
+
+  key_level : (q : Schema → ast_select.Select → Building Query) → program_level q schema (selection_of key_core) [] ≡ Ok ((key_selects l, key_names, key_carried), [])
+  unfolding written_parts Rattle.sqlite_resolve.specs.Program.level Rattle.sqlite_resolve.specs.Program.with Rattle.sqlite_resolve.specs.Program.whole
+  key_level q = rw (key_paging, key_alone) refl
+
+  key_drafts : query schema (selection_of key_core) ≡ Ok ((key_selects l, key_names, key_carried), [])
+  unfolding Rattle.sqlite_resolve.specs.Program.query Rattle.sqlite_resolve.specs.Program.query_to
+  key_drafts = key_level (query_to 15)
+
+  key_runs : program schema [] (key_selects l) ≡ Ok (runs (key_selects l))
+  unfolding everything
+  key_runs = rw (it.not_high, it.alone) refl
+
+  pub cells_of_is : understood schema cells_of_text ≡ Ok (does cells_of_parsed (Select (runs (key_selects l)) key_names))
+  unfolding lowering understood Rattle.sqlite_resolve.specs.Compile.read
+  cells_of_is = rw (cells_of_first, key_drafts, key_runs) refl
+
+  pub cells_of_listed : reads_listing schema cells_of_text ≡ false
+  unfolding lowering Rattle.sqlite_resolve.specs.Compile.read
+  cells_of_listed = rw (cells_of_first, key_drafts, key_runs) refl

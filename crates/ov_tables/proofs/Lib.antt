@@ -15,6 +15,7 @@ pub mod UpdateLemmas
 pub mod RenewLemmas
 pub mod KeepLemmas
 pub mod ReadLemmas
+pub mod PassingLemmas
 pub mod EachLemmas
 pub mod RoomLemmas
 pub mod CreateLemmas

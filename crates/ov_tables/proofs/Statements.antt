@@ -1,5 +1,5 @@
 -- The statements as they are parsed. Their terms are written out, so that what they ask for needs no text.
-use Rattle.std.proofs.Common.{◌≡◌, ℕ, Bool, List, [], ◌∷◌, codes, false, None, Some, Ok, refl, pos, negsuc}
+use Rattle.std.proofs.Common.{◌≡◌, ℕ, Bool, List, [], ◌∷◌, codes, false, Option, None, Some, Ok, refl, pos, negsuc}
 use Rattle.sqlite.specs.Collation.TheVariants.{Binary}
 use Rattle.sqlite.specs.declared.types.Value.TheVariants.{Null, Int}
 use Rattle.sqlite.specs.Term.{Term, lit, col, op2}
@@ -30,7 +30,7 @@ use Rattle.sqlite_ast.specs.declared.Statement.TheVariants as written
 use Rattle.sqlite_resolve.specs.Compile.{first}
 use Rattle.sqlite_resolve.specs.Scope.{Context}
 use Rattle.sqlite_draft.specs.declared.query.Draft.{Draft}
-use Rattle.ov_tables.specs.Tables.{meta_insert_text, meta_select_text, meta_clear_text, line_select_text, line_clear_text, head_insert_text, head_select_text, head_clear_text, head_delete_text, head_update_text, cell_insert_text, cell_select_text, cell_clear_text, cell_delete_text, cell_update_text}
+use Rattle.ov_tables.specs.Tables.{meta_insert_text, meta_select_text, meta_clear_text, line_select_text, line_clear_text, head_insert_text, head_select_text, head_clear_text, head_delete_text, head_update_text, cell_insert_text, cell_select_text, cell_clear_text, cell_delete_text, cell_update_text, cells_of_text}
 
 abbrev pub named : List ℕ → Expr
 named name = expr.Column None name
@@ -50,18 +50,24 @@ shows name = shown.One (named name) None name
 abbrev pub source_of : List ℕ → ast_source.Source
 source_of table = ast_source.roll-Source (record { is_left = false; origin = origin.Table table; alias = None; on = None; using = [] })
 
-abbrev pub core_of : List Shown → List ℕ → ast_core.Core
-core_of columns table = ast_core.roll-Core (record { distinct = false; shown = columns; from = source_of table ∷ []; filter = None; group = []; having = None })
+abbrev pub core_where : List Shown → List ℕ → Option Expr → ast_core.Core
+core_where columns table test = ast_core.roll-Core (record { distinct = false; shown = columns; from = source_of table ∷ []; filter = test; group = []; having = None })
 
-abbrev pub selection : List Shown → List ℕ → ast_select.Select
-selection columns table = ast_select.roll-Select (record {
+abbrev pub core_of : List Shown → List ℕ → ast_core.Core
+core_of columns table = core_where columns table None
+
+abbrev pub selection_of : ast_core.Core → ast_select.Select
+selection_of core = ast_select.roll-Select (record {
   with = [];
-  first = core_of columns table;
+  first = core;
   others = [];
   order = [];
   limit = None;
   offset = None;
 })
+
+abbrev pub selection : List Shown → List ℕ → ast_select.Select
+selection columns table = selection_of (core_of columns table)
 
 abbrev pub meta_insert_parsed : Parsed
 meta_insert_parsed = record { statement = written.Insert conflict.Abort (codes "meta") (codes "k" ∷ codes "v" ∷ []) (rows.Values ((expr.Parameter 1 ∷ expr.Parameter 2 ∷ []) ∷ [])) [] []; names = codes "?1" ∷ codes "?2" ∷ []; formats = []; start = 0; end = 35; tail = 35 }
@@ -168,6 +174,13 @@ pub cell_update_first : first cell_update_text ≡ Ok cell_update_parsed
 unfolding everything
 cell_update_first = refl
 
+abbrev pub cells_of_parsed : Parsed
+cells_of_parsed = record { statement = written.Select (selection_of (core_where (shows (codes "col") ∷ shows (codes "body") ∷ []) (codes "cell") (Some key_test))); names = codes "?1" ∷ codes "?2" ∷ []; formats = []; start = 0; end = 48; tail = 48 }
+
+pub cells_of_first : first cells_of_text ≡ Ok cells_of_parsed
+unfolding everything
+cells_of_first = refl
+
 -- a statement that was parsed, with what it asks for
 abbrev pub does : Parsed → Command → Compiled
 does p command = record { command = command; returning = None; names = p.names; formats = []; start = p.start; end = p.end; tail = p.tail }
@@ -241,6 +254,10 @@ head_update_terms = col 1 0 ∷ col 1 1 ∷ col 1 2 ∷ col 0 2 ∷ []
 -- what is read of `cell`
 abbrev pub cell_selects : ℕ → Draft
 cell_selects tree = drafts tree [] (col 1 0 ∷ col 1 1 ∷ col 1 2 ∷ col 1 3 ∷ col 1 4 ∷ [])
+
+-- what is read of the cells of a key
+abbrev pub key_selects : ℕ → Draft
+key_selects tree = drafts tree key_terms (col 1 3 ∷ col 1 4 ∷ [])
 
 abbrev pub cell_insert_terms : List Term
 cell_insert_terms = lit Null ∷ col 0 0 ∷ col 0 1 ∷ col 0 2 ∷ col 0 3 ∷ []

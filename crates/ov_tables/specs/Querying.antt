@@ -1,10 +1,13 @@
--- What a query of a whole table returns, and what it leaves of a connection.
-use Rattle.std.specs.Prelude.{◌≡◌, ℕ, Bool, true, false, List, [], ◌∷◌, ◌++◌, IsTrue}
+-- What a query of a whole table returns, or of the cells of one key, and what it leaves of a connection.
+use Rattle.std.specs.Prelude.{◌≡◌, ℕ, Bool, true, false, List, [], ◌∷◌, ◌++◌, map, filter, IsTrue}
 use Rattle.std.specs.List.Sorted.{IsPermutation}
+use Rattle.std.specs.Ordering.{eq_by_cmp}
 use Rattle.sqlite.specs.Order.{Row, column}
 use Rattle.sqlite.specs.Table.{Table}
-use Rattle.sqlite.specs.State.{State}
+use Rattle.sqlite.specs.State.{State, IsUnchanged}
+use Rattle.ov_specs.specs.rows.Lines.{LineKey, line_cmp}
 use Rattle.ov_tables.specs.Tables.{tree_of, HasTable}
+use Rattle.ov_tables.specs.Format.{row_key, rows_of_cell}
 
 -- a row of `meta` or of `head` as it is read: its number and its columns, in their places
 abbrev pub meta_selected : Row → Row
@@ -32,3 +35,16 @@ GivesRows HasTaken HasRefused stored true =
     (rows : List Row) × IsPermutation stored rows × HasTaken rows
 GivesRows HasTaken HasRefused stored false =
     (rows : List Row) × (rest : List Row) × IsPermutation stored (rows ++ rest) × HasRefused rows
+
+-- a cell of a key as it is read: the name of its column and its body
+abbrev pub cell_selected : Row → Row
+cell_selected r = column r 3 ∷ column r 4 ∷ []
+
+-- the rows of this key
+abbrev pub with_key : LineKey → List Row → List Row
+with_key key rows = filter (λ r. eq_by_cmp line_cmp key (row_key r)) rows
+
+-- the cells of this key were read, each once, in some order, and nothing has changed
+pub record ReadsKey (key : LineKey) (read : List Row) (old new : State) : Type 0 where
+  pub same : IsUnchanged old new
+  pub cells : IsPermutation (map cell_selected (with_key key (rows_of_cell old.now.trees))) read

@@ -231,5 +231,8 @@ cell_update_text = codes "UPDATE cell SET body=?4 WHERE tbl=?1 AND id=?2 AND col
 abbrev pub cell_select_text : List ℕ
 cell_select_text = codes "SELECT rowid,tbl,id,col,body FROM cell"
 
+abbrev pub cells_of_text : List ℕ
+cells_of_text = codes "SELECT col,body FROM cell WHERE tbl=?1 AND id=?2"
+
 abbrev pub cell_clear_text : List ℕ
 cell_clear_text = codes "DELETE FROM cell"

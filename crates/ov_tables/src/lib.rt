@@ -17,7 +17,7 @@ pub use clear::clear_tables;
 pub use each::{TakesRows, each_cell};
 pub use make::{fill_meta, make_tables};
 pub use page::lists_tables;
-pub use query::{head_rows, line_rows, meta_rows};
+pub use query::{cells_of, head_rows, line_rows, meta_rows};
 pub use room::has_room;
 pub use schema::{has_cell_tables, is_blank, is_ours};
 pub use write_error::WriteError;

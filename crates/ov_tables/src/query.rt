@@ -8,9 +8,12 @@ ghost use Rattle.sqlite.specs.Held.{state};
 ghost use Rattle.ov_tables.specs.Format.{rows_of_meta, rows_of_line, rows_of_head};
 ghost use Rattle.ov_tables.specs.Tables.{meta_table, line_table, head_table};
 ghost use Rattle.ov_tables.specs.Querying.{IsAsBefore, MayRead, meta_selected, head_selected};
-ghost use Rattle.ov_tables.specs.Querying.{row_selected};
+ghost use Rattle.ov_tables.specs.Querying.{row_selected, ReadsKey};
+ghost use Rattle.ov_tables.specs.Holding.{MayHoldCells};
+ghost use Rattle.ov_tables.specs.Inside.{WasOpenInside, GoesOnInside, CommitsNothing};
 
-use sqlite::{Alter, Connection, Error, Row};
+use sqlite::types::ValueRef;
+use sqlite::{Alter, Connection, Error, Row, Transaction};
 
 /// The rows that a query returns. It runs in a transaction that is rolled back, so nothing is committed.
 fn query<S: Alter>(conn: &mut Connection<S>, sql: &str) -> Result<Vec<Row>, Error>
@@ -93,4 +96,28 @@ pub fn head_rows<S: Alter>(conn: &mut Connection<S>) -> Result<Vec<Row>, Error>
     ensures survives { Survives (state S.Store conn.old) (state S.Store conn.new) (λ _. ⊥) }
 {
     query(conn, "SELECT rowid,tbl,id,ver FROM head")
+}
+
+/// The cells of the row of this key, each by the name of its column and its body. It changes nothing.
+pub fn cells_of<S: Alter>(
+    tx: &mut Transaction<'_, S>,
+    table: &str,
+    id: &[u8],
+) -> Result<Vec<Row>, Error>
+    ensures same_reference { tx.new.conn.ghost_name ≡ tx.old.conn.ghost_name }
+    ensures cells { HasCleanDisk (state S.Store tx.new.conn.now)
+        → IsTrue (state S.Store tx.old.conn.now).in_transaction → (text : _)
+        → MayHoldCells text (state S.Store tx.old.conn.now)
+        → IfOk result (λ rows. ReadsKey (table.now, id.now) rows.items
+        (state S.Store tx.old.conn.now) (state S.Store tx.new.conn.now)) }
+    ensures opened { WasOpenInside (state S.Store tx.old.conn.now)
+        (state S.Store tx.new.conn.now) result }
+    ensures goes_on { GoesOnInside (state S.Store tx.old.conn.now)
+        (state S.Store tx.new.conn.now) result }
+    ensures kept { CommitsNothing (state S.Store tx.old.conn.now) (state S.Store tx.new.conn.now) }
+    ensures survives { Survives (state S.Store tx.old.conn.now) (state S.Store tx.new.conn.now)
+        (λ _. ⊥) }
+{
+    let key = [ValueRef::Text(table.as_bytes()), ValueRef::Blob(id)];
+    tx.query_all("SELECT col,body FROM cell WHERE tbl=?1 AND id=?2", &key)
 }
