@@ -109,7 +109,7 @@ others_absent k (r ∷ rows) = go (has_key k r) refl (others_absent k rows)
     go true is more = more
     go false is more = (is, more)
 
-all_rows : {P : Row → Type 0} (rows : List Row) → ((r : Row) → P r) → AllByRecursion P rows
+pub all_rows : {P : Row → Type 0} (rows : List Row) → ((r : Row) → P r) → AllByRecursion P rows
 all_rows [] f = tt
 all_rows (r ∷ rows) f = (f r, all_rows rows f)
 

@@ -1,6 +1,7 @@
 -- What the statements make of a database of stored format 2.
 use Rattle.std.proofs.Common.{◌≡◌, ℕ, ℤ, List, [], ◌∷◌, map, length, Bool, true, false, ◌||◌, Some, None, IfSome, IsTrue, IsUtf8, Ok, codes, refl, sym, ap, subst, ◌∙◌}
-use Rattle.std.specs.List.{AllByRecursion}
+use Rattle.std.specs.List.{AllByRecursion, list_any}
+use Rattle.std.proofs.lemmas.List.Sorted.{list_any-IsPermutation}
 use Rattle.std.specs.FinMap.{empty, get, remove}
 use Rattle.sqlite.specs.declared.types.Value.TheVariants.{Text, Blob}
 use Rattle.sqlite.specs.Order.{Row, column}
@@ -11,10 +12,11 @@ use Rattle.sqlite_trees.proofs.ListLemmas.{all_weaker, all_both, all-filter}
 use Rattle.sqlite.specs.State.{State, Executes}
 use Rattle.ov_specs.specs.rows.Lines.{LineKey}
 use Rattle.ov_specs.specs.rows.Cells.{CellLine, CellLines, cell_lines}
-use Rattle.ov_tables.specs.Tables.{meta_table, head_table, cell_table, tree_of, row_trees, HasCellTables, cell_insert_text, cell_delete_text, head_insert_text, head_delete_text}
+use Rattle.ov_tables.specs.Tables.{meta_table, head_table, cell_table, tree_of, row_trees, HasCellTables, cell_insert_text, cell_delete_text, cell_update_text, head_insert_text, head_delete_text, head_update_text}
 use Rattle.ov_tables.specs.Format.{IsMeta, IsKeyed, IsHead, IsCell, row_key, head_of, cell_of, stored_cells, rows_of_head, rows_of_cell}
 use Rattle.ov_tables.specs.Holding.{HoldsCells, IsNumbered, is_among}
 use Rattle.ov_sqlite.specs.Changing.{MakesRows, Becomes, IsEmptied, IsRowBegun, IsCellAdded, AreCellsAdded}
+use Rattle.ov_sqlite.specs.Renewing.{HasVersion, HasBody}
 use Rattle.ov_sqlite.specs.Joining.{CellEntry, entry_in}
 use Rattle.ov_tables.proofs.ListingLemmas.{Touches, rows_beside, others_kept}
 use Rattle.ov_tables.proofs.Statements.{key_terms, head_insert_terms, cell_insert_terms, head_insert_parsed, cell_insert_parsed, head_delete_parsed, cell_delete_parsed}
@@ -24,9 +26,13 @@ use Rattle.ov_tables.proofs.RowLemmas.{has_key}
 use Rattle.ov_tables.proofs.DeleteLemmas.{deletes}
 use Rattle.ov_tables.proofs.InsertLemmas.{inserts, head_row, cell_row, head_adds, cell_adds}
 use Rattle.ov_tables.proofs.RemoveLemmas.{left_keyed, filter_numbered, numbered_part}
+use Rattle.ov_tables.proofs.RenewLemmas.{heads_with, cells_with, keys_stay, cell_key_stays, head_updates, cell_updates}
 use Rattle.ov_sqlite.proofs.PutLemmas.{not_taken, put_numbered, any_put, passes_none}
 use Rattle.ov_sqlite.proofs.CellLemmas.{others, others_all, IsAbsent, HasHead, heads_each, each_heads, head_stays, head_there, bare, emptied, removed, headed, celled, get_lines, line_at}
-use Rattle.ov_sqlite.proofs.KeyLemmas.{AreApart, apart_by_key, new_head, new_cell}
+use Rattle.ov_sqlite.proofs.KeyLemmas.{AreApart, apart_by_key, new_head, new_cell, agree_heads, agree_cells}
+use Rattle.ov_sqlite.proofs.OpenLemmas.{every_shuffled}
+use Rattle.ov_sqlite.proofs.HeldLemmas.{map_all}
+use Rattle.ov_sqlite.proofs.InPlaceLemmas.{version_put, body_put}
 use Rattle.ov_sqlite.proofs.FourTexts.{four_cells_text, four_cells_terms, four_cells_parsed, four_cells_is, four_values, four_adds}
 use Rattle.ov_sqlite.proofs.ManyLemmas.{InsertsAll, next_rows, inserts_all, all_put, all_numbered, cells_added}
 use Rattle.ov_tables.proofs.MetaLemmas.{first_among, head_not_cell, cell_not_head, meta_not_head, meta_not_cell, itself}
@@ -129,6 +135,27 @@ module _ (text : List ℕ) (old new : State) (stored : HoldsCells text old.now) 
         let absent = bare k H C heads_are none in
         head_changed (Becomes (λ m. remove m k)) (others k H) d.only left (all-filter _ _ H stored.format.heads) (filter_numbered head_of _ H stored.heads_numbered)
         (all_both _ _ _ (λ r there apart. head_stays k H r apart there) C heads_are absent) (ap (λ rows. cell_lines (map head_of (others k H)) (map cell_of rows)) (sym (others_all k C absent)) ∙ removed k H C)
+
+    pub head_updated : (v : List ℕ) → length v ≡ 16 → Executes head_update_text (Text k.0 ∷ Blob k.1 ∷ Blob v ∷ []) old new (Ok count) → MakesRows text (HasVersion k v) old new
+    head_updated v ver_sixteen ran =
+        let d = head_updates old new h stored.sound k v ver_sixteen has.head stored.format.heads stored.heads_numbered count ran in
+        let rows = rows_of_head new.now.trees in
+        let table = subst (λ s. Rattle.ov_tables.specs.Tables.HasTable s (head_table h)) (sym d.only.schema) has.head in
+        let apart : AreApart (1 ∷ 2 ∷ []) rows = apart_by_key new.now (codes "head") h _ (1 ∷ 2 ∷ []) table d.only.sound in
+        let owned : AllByRecursion (HasHead rows) C =
+        all_weaker _ _ (λ r there. sym (list_any-IsPermutation (has_key (row_key r)) (heads_with k v H) rows d.rows) ∙ keys_stay k v (row_key r) H ∙ there) C heads_are in
+        head_changed (HasVersion k v) rows d.only refl d.heads d.numbered owned (version_put H rows C k v d.rows (agree_heads rows d.heads apart d.numbered))
+
+    pub cell_updated : (name body : List ℕ) → Executes cell_update_text (Text k.0 ∷ Blob k.1 ∷ Text name ∷ Blob body ∷ []) old new (Ok count) → MakesRows text (HasBody k name body) old new
+    cell_updated name body ran =
+        let d = cell_updates old new c stored.sound k name body has.cell stored.format.cells stored.cells_numbered count ran in
+        let rows = rows_of_cell new.now.trees in
+        let table = subst (λ s. Rattle.ov_tables.specs.Tables.HasTable s (cell_table c)) (sym d.only.schema) has.cell in
+        let apart : AreApart (1 ∷ 2 ∷ 3 ∷ []) rows = apart_by_key new.now (codes "cell") c _ (1 ∷ 2 ∷ 3 ∷ []) table d.only.sound in
+        let kept : AllByRecursion (HasHead H) (cells_with k name body C) =
+        map_all (HasHead H) _ C (all_weaker _ _ (λ r there. subst (λ q. list_any (has_key q) H ≡ true) (sym (cell_key_stays k name body r)) there) C heads_are) in
+        let owned : AllByRecursion (HasHead H) rows = every_shuffled (HasHead H) (cells_with k name body C) rows d.rows kept in
+        cell_changed (HasBody k name body) rows d.only refl d.cells d.numbered owned (λ was l there has. body_put H C rows k name body d.rows (agree_cells rows d.cells apart d.numbered) l was there has)
 
   module _ (t i : List ℕ) (named : IsUtf8 t) (id_sixteen : length i ≡ 16) (count : ℕ) where
     keyed_row : (r : Row) (n : ℤ) → column r 0 ≡ Rattle.sqlite.specs.declared.types.Value.TheVariants.Int n → column r 1 ≡ Text t → column r 2 ≡ Blob i → IsKeyed r

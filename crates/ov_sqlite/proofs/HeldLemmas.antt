@@ -4,7 +4,6 @@ use Rattle.std.specs.List.{AllByRecursion, list_any}
 use Rattle.std.specs.List.Sorted.{IsPermutation}
 use Rattle.std.specs.FinMap.{from_entries, get-from_entries, same_map}
 use Rattle.std.specs.FinMap.{find as entry_at}
-use Rattle.std.proofs.lemmas.Bool.{and_parts}
 use Rattle.std.proofs.lemmas.List.Sorted.{IsPermutation-sym, length_permutation, list_any-IsPermutation}
 use Rattle.std.specs.Cmp.{eq_by_cmp_equiv}
 use Rattle.std.specs.Ordering.{is_eq}
@@ -17,7 +16,7 @@ use Rattle.sqlite_value.proofs.OrderLemmas.{value_cmp-Text, value_cmp-Blob, valu
 use Rattle.sqlite_trees.proofs.ListLemmas.{all_weaker, all_both}
 use Rattle.sqlite.specs.Effect.{Database, IsDatabase}
 use Rattle.ov_specs.specs.rows.Lines.{LineKey, LineBody, line_cmp}
-use Rattle.ov_specs.specs.rows.Cells.{Head, Cell, Whole, InCells, cell_lines, cells_at, have_heads}
+use Rattle.ov_specs.specs.rows.Cells.{Whole, InCells, cell_lines, cells_at, have_heads}
 use Rattle.ov_specs.proofs.laws.LineKeys.{key_total, key_exact}
 use Rattle.ov_tables.specs.Tables.{line_table, HasTable, HasCellTables}
 use Rattle.ov_tables.specs.Format.{IsKeyed, IsLine, IsHead, IsCell, IsMeta, IsFormatRow, IsSchemaRow, row_key, entry, head_of, cell_of, is_cells_row, stored_schema, stored_lines, stored_cells, held, rows_of_meta, rows_of_line, rows_of_head, rows_of_cell}
@@ -26,8 +25,8 @@ use Rattle.ov_sqlite.specs.Joining.{AreDistinct, AreNumbered}
 use Rattle.ov_tables.specs.Querying.{meta_selected, head_selected, row_selected}
 use Rattle.ov_sqlite.proofs.OpenLemmas.{every_shuffled}
 use Rattle.ov_tables.proofs.RowLemmas.{has_key}
-use Rattle.ov_sqlite.proofs.CellLemmas.{names_total, names_exact, HasHead, heads_each, each_heads, has_cell, keyed, same_name_is, get_cells, get_lines, line_at}
-use Rattle.ov_sqlite.proofs.KeyLemmas.{Agree, AreApart, Apart, same_found, selected_found, apart_by_key, key_number, cell_number}
+use Rattle.ov_sqlite.proofs.CellLemmas.{names_total, names_exact, HasHead, heads_each, each_heads, has_cell, keyed, get_cells, get_lines, line_at}
+use Rattle.ov_sqlite.proofs.KeyLemmas.{Agree, AreApart, Apart, same_found, selected_found, apart_by_key, key_number, agree_heads, agree_cells}
 
 pub all_map : {X Y : Type 0} (P : Y → Type 0) (f : X → Y) (xs : List X) → AllByRecursion P (map f xs) → AllByRecursion (λ x. P (f x)) xs
 all_map P f [] all = tt
@@ -241,36 +240,16 @@ module _ (db : Database) (has : HasCellTables db.schema) (sound : IsDatabase db)
   cells_apart : AreApart (1 ∷ 2 ∷ 3 ∷ []) C
   cells_apart = apart_by_key db (codes "cell") _ _ (1 ∷ 2 ∷ 3 ∷ []) has.cell sound
 
-  agree_heads : (q : LineKey) → Agree (has_key q) (λ r. bytes (column r 3)) H
-  agree_heads q = all_both _ _ _ (λ r l rest. all_both _ _ _ (λ s m both here there. one r s l m both here there) H keyed_heads rest) H keyed_heads
-      (all_both _ _ _ (λ r apart ones. all_both _ _ _ (λ s a o. (a, o)) H apart ones) H heads_apart heads_numbered)
-    where
-      keyed_heads : AllByRecursion IsKeyed H
-      keyed_heads = all_weaker _ _ (λ r (is : IsHead r). is.keyed) H heads_are
-
-      one : (r s : Row) → IsKeyed r → IsKeyed s → Apart (1 ∷ 2 ∷ []) r s × (column s 0 ≡ column r 0 → head_of s ≡ head_of r) → has_key q r ≡ true → has_key q s ≡ true → bytes (column s 3) ≡ bytes (column r 3)
-      one r s l m both here there = ap (λ (h : Head). h.version) (both.1 (key_number s r m l (sym (keyed q s there) ∙ keyed q r here) both.0))
-
-  agree_cells : (q : LineKey) (c : List ℕ) → Agree (has_cell q c) (λ r. bytes (column r 4)) C
-  agree_cells q c = all_both _ _ _ (λ r l rest. all_both _ _ _ (λ s m both here there. one r s l m both here there) C cells_are rest) C cells_are
-      (all_both _ _ _ (λ r apart ones. all_both _ _ _ (λ s a o. (a, o)) C apart ones) C cells_apart cells_numbered)
-    where
-      one : (r s : Row) → IsCell r → IsCell s → Apart (1 ∷ 2 ∷ 3 ∷ []) r s × (column s 0 ≡ column r 0 → cell_of s ≡ cell_of r) → has_cell q c r ≡ true → has_cell q c s ≡ true → bytes (column s 4) ≡ bytes (column r 4)
-      one r s l m both here there =
-          let a = and_parts _ _ here in
-          let b = and_parts _ _ there in
-          ap (λ (x : Cell). x.body) (both.1 (cell_number s r m l (sym (keyed q s b.0) ∙ keyed q r a.0) (sym (same_name_is c (bytes (column s 3)) b.1) ∙ same_name_is c (bytes (column r 3)) a.1) both.0))
-
   cells_same : (q : LineKey) → cells_at (map cell_of C) q ≡ cells_at (map cell_of cells) q
   cells_same q = same_map names_total names_exact _ _ (λ c.
       get_cells C q c ∙ sym (selected_found (has_cell q c) (λ r. bytes (column r 4)) row_selected (λ r. refl) (λ r. refl) C)
-      ∙ same_found (has_cell q c) (λ r. bytes (column r 4)) (map row_selected C) cells same_cells (agree_selected (has_cell q c) _ (λ r. bytes (column r 4)) row_selected C (λ r. refl) (λ r. refl) (agree_cells q c))
+      ∙ same_found (has_cell q c) (λ r. bytes (column r 4)) (map row_selected C) cells same_cells (agree_selected (has_cell q c) _ (λ r. bytes (column r 4)) row_selected C (λ r. refl) (λ r. refl) (agree_cells C cells_are cells_apart cells_numbered q c))
       ∙ sym (get_cells cells q c))
 
   heads_same : (q : LineKey) → option_map (λ r. bytes (column r 3)) (find (has_key q) H) ≡ option_map (λ r. bytes (column r 3)) (find (has_key q) heads)
   heads_same q =
       sym (selected_found (has_key q) (λ r. bytes (column r 3)) head_selected (λ r. refl) (λ r. refl) H)
-      ∙ same_found (has_key q) (λ r. bytes (column r 3)) (map head_selected H) heads same_heads (agree_selected (has_key q) _ (λ r. bytes (column r 3)) head_selected H (λ r. refl) (λ r. refl) (agree_heads q))
+      ∙ same_found (has_key q) (λ r. bytes (column r 3)) (map head_selected H) heads same_heads (agree_selected (has_key q) _ (λ r. bytes (column r 3)) head_selected H (λ r. refl) (λ r. refl) (agree_heads H heads_are heads_apart heads_numbered q))
 
   -- the heads and cells that were read are those that are stored
   pub joined_same : stored_cells db.trees ≡ cell_lines (map head_of heads) (map cell_of cells)

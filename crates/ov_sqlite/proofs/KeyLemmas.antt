@@ -23,7 +23,7 @@ use Rattle.sqlite.specs.Collation.TheVariants.{Binary}
 use Rattle.sqlite_schema.specs.declared.schema.Column.{Column}
 use Rattle.sqlite_schema.specs.declared.schema.Constraint.TheVariants.{Unique}
 use Rattle.sqlite_schema.specs.Rules.{agree, differ, clashes}
-use Rattle.sqlite_trees.proofs.ListLemmas.{all_weaker}
+use Rattle.sqlite_trees.proofs.ListLemmas.{all_weaker, all_both}
 use Rattle.sqlite_trees.specs.Tree.{rowid, put_row}
 use Rattle.sqlite.specs.Effect.{Database, IsDatabase}
 use Rattle.sqlite_rules.specs.Lists.{Has}
@@ -32,7 +32,9 @@ use Rattle.sqlite_rules.proofs.ListLemmas.{all_has, all_from, some_from}
 use Rattle.sqlite_rules.proofs.TableLemmas.{put_all_keeps, put_all_adds}
 use Rattle.ov_specs.specs.rows.Lines.{LineKey}
 use Rattle.ov_tables.specs.Tables.{plain_table, HasTable}
-use Rattle.ov_tables.specs.Format.{HasNumber, IsKeyed, IsHead, IsCell, row_key, rows_of}
+use Rattle.ov_specs.specs.rows.Cells.{Head, Cell}
+use Rattle.ov_tables.specs.Format.{HasNumber, IsKeyed, IsHead, IsCell, row_key, rows_of, head_of, cell_of}
+use Rattle.ov_tables.specs.Holding.{IsNumbered}
 use Rattle.ov_tables.proofs.TableLemmas.{found_has}
 use Rattle.ov_tables.proofs.ListingLemmas.{rows_are}
 use Rattle.ov_tables.proofs.RowLemmas.{has_key, keyed_number, equal_texts, equal_blobs, truth_of, same_number}
@@ -217,3 +219,29 @@ new_cell x C fresh cells is apart = all_from _ C (λ r h. at r h (has_cell (row_
         let number = cell_number r x (all_has _ C r cells h) is (sym (keyed (row_key x) r parts.0)) (sym (same_name_is (bytes (column x 3)) (bytes (column r 3)) parts.1)) one in
         let taken : is_taken C x ≡ true = some_from _ C r h (ap (λ v. is_eq (value_cmp v (rowid x))) number ∙ (eq_by_cmp_equiv value_cmp_total).refl (rowid x)) in
         absurd (let clash : true ≡ false = sym taken ∙ not_taken C x fresh in cc)
+
+-- ---- what rows of one key have in common
+
+-- where no two heads have one key and two numbers, and a number names one head, heads of one key have one version
+pub agree_heads : (H : List Row) → AllByRecursion IsHead H → AreApart (1 ∷ 2 ∷ []) H → IsNumbered head_of H → (q : LineKey) → Agree (has_key q) (λ r. bytes (column r 3)) H
+agree_heads H heads_are apart numbered q =
+    all_both _ _ _ (λ r l rest. all_both _ _ _ (λ s m both here there. one r s l m both here there) H keyed_heads rest) H keyed_heads
+    (all_both _ _ _ (λ r aparts ones. all_both _ _ _ (λ s a o. (a, o)) H aparts ones) H apart numbered)
+  where
+    keyed_heads : AllByRecursion IsKeyed H
+    keyed_heads = all_weaker _ _ (λ r (is : IsHead r). is.keyed) H heads_are
+
+    one : (r s : Row) → IsKeyed r → IsKeyed s → Apart (1 ∷ 2 ∷ []) r s × (column s 0 ≡ column r 0 → head_of s ≡ head_of r) → has_key q r ≡ true → has_key q s ≡ true → bytes (column s 3) ≡ bytes (column r 3)
+    one r s l m both here there = ap (λ (h : Head). h.version) (both.1 (key_number s r m l (sym (keyed q s there) ∙ keyed q r here) both.0))
+
+-- and likewise cells of one key and column have one body
+pub agree_cells : (C : List Row) → AllByRecursion IsCell C → AreApart (1 ∷ 2 ∷ 3 ∷ []) C → IsNumbered cell_of C → (q : LineKey) (c : List ℕ) → Agree (has_cell q c) (λ r. bytes (column r 4)) C
+agree_cells C cells_are apart numbered q c =
+    all_both _ _ _ (λ r l rest. all_both _ _ _ (λ s m both here there. one r s l m both here there) C cells_are rest) C cells_are
+    (all_both _ _ _ (λ r aparts ones. all_both _ _ _ (λ s a o. (a, o)) C aparts ones) C apart numbered)
+  where
+    one : (r s : Row) → IsCell r → IsCell s → Apart (1 ∷ 2 ∷ 3 ∷ []) r s × (column s 0 ≡ column r 0 → cell_of s ≡ cell_of r) → has_cell q c r ≡ true → has_cell q c s ≡ true → bytes (column s 4) ≡ bytes (column r 4)
+    one r s l m both here there =
+        let a = and_parts _ _ here in
+        let b = and_parts _ _ there in
+        ap (λ (x : Cell). x.body) (both.1 (cell_number s r m l (sym (keyed q s b.0) ∙ keyed q r a.0) (sym (same_name_is c (bytes (column s 3)) b.1) ∙ same_name_is c (bytes (column r 3)) a.1) both.0))

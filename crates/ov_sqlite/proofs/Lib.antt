@@ -15,3 +15,5 @@ pub mod HeldLemmas
 pub mod FormatLemmas
 pub mod JoinLemmas
 pub mod ReadLemmas
+pub mod PlaceLemmas
+pub mod InPlaceLemmas

@@ -59,7 +59,7 @@ push_below rows x last n m is above low below =
     further None h = h
     further (Some k) h = int_chain k n m h low
 
-ascending_push : {X : Type 0} (R : X → X → Type 0) (xs : List X) (x : X) → IsAscending R xs → AllByRecursion (λ a. R a x) xs → IsAscending R (xs ++ x ∷ [])
+pub ascending_push : {X : Type 0} (R : X → X → Type 0) (xs : List X) (x : X) → IsAscending R xs → AllByRecursion (λ a. R a x) xs → IsAscending R (xs ++ x ∷ [])
 ascending_push R [] x rises all = (tt, tt)
 ascending_push R (y ∷ xs) x rises all = (all_push (R y) xs x rises.0 all.0, ascending_push R xs x rises.1 all.1)
 

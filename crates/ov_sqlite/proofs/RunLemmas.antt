@@ -33,6 +33,19 @@ makes_then text P Q R a b c is one two = record {
   committed = two.committed ∙ one.committed;
 }
 
+-- what was done is also something weaker
+pub makes_weaker : (text : List ℕ) (P Q : CellLines → CellLines → Type 0) (a b : State) → (P (stored_cells a.now.trees) (stored_cells b.now.trees) → Q (stored_cells a.now.trees) (stored_cells b.now.trees)) → MakesRows text P a b → MakesRows text Q a b
+makes_weaker text P Q a b is made = record {
+  mode = made.mode;
+  opens = made.opens;
+  stored = made.stored;
+  lines_are = is made.lines_are;
+  meta = made.meta;
+  schema = made.schema;
+  others = made.others;
+  committed = made.committed;
+}
+
 -- ---- a statement that was refused
 
 matched : (b : Bool) {P Q R : Type 0} → MatchBool b P Q → (P → R) → (Q → R) → R

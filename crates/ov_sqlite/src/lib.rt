@@ -11,6 +11,7 @@ mod format;
 mod join;
 mod meta;
 mod read;
+mod renew;
 mod rewrite;
 mod rows;
 mod value;

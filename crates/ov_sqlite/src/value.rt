@@ -1,4 +1,4 @@
-//! The values of a row that was read.
+//! The values of rows.
 
 ghost use Rattle.std.specs.Prelude.{◌≡◌, ◌↔◌, MatchOption, IsUtf8, IsTrue, length};
 ghost use Rattle.sqlite.specs.declared.types.Value.TheVariants.{Int, Text, Blob};
@@ -64,4 +64,12 @@ pub(crate) fn uuid_at(row: &Row, at: usize) -> Option<Uuid>
 {
     let bytes = blob_at(row, at)?;
     Uuid::from_slice(bytes).ok()
+}
+
+/// The sixteen bytes of an identifier.
+pub(crate) fn id_bytes(id: &Uuid) -> &[u8]
+    ensures bytes { result.now ≡ id.now }
+    ensures sixteen { length result.now ≡ 16 }
+{
+    id.as_bytes()
 }

@@ -17,8 +17,10 @@ ghost use Rattle.ov_tables.specs.Inside.{DoesInside, DoesInsideIf, WasOpenInside
 ghost use Rattle.ov_tables.specs.Inside.{CommitsNothing};
 ghost use Rattle.ov_tables.specs.Querying.{IsAsBefore};
 
+use crate::renew::{are_of, update_cells, update_head};
+use crate::value::id_bytes;
 use ov_keeper::{Cell, CellLine, Change};
-use ov_tables::WriteError;
+use ov_tables::{WriteError, cells_of};
 use sqlite::types::ValueRef;
 use sqlite::{Alter, Connection, Error, ErrorCode, Transaction};
 use uuid::Uuid;
@@ -79,14 +81,6 @@ fn remove_row<S: Alter>(tx: &mut Transaction<'_, S>, table: &str, id: Uuid) -> R
 {
     remove_cells(tx, table, id)?;
     remove_head(tx, table, id)
-}
-
-/// The sixteen bytes of an identifier.
-fn id_bytes(id: &Uuid) -> &[u8]
-    ensures bytes { result.now ≡ id.now }
-    ensures sixteen { length result.now ≡ 16 }
-{
-    id.as_bytes()
 }
 
 /// Adds the head of a row that is not there. SQLite refuses a second head of one key; then nothing has changed.
@@ -257,6 +251,28 @@ fn replace_row<S: Alter>(tx: &mut Transaction<'_, S>, line: &CellLine) -> Result
     insert_cells(tx, line)
 }
 
+/// Puts a row in place of the one with its key. If that one has the same columns, only what differs is written.
+fn update_row<S: Alter>(tx: &mut Transaction<'_, S>, line: &CellLine) -> Result<(), Error>
+    ensures same_reference { tx.new.conn.ghost_name ≡ tx.old.conn.ghost_name }
+    ensures ok { DoesInside (λ text. MakesRows text (Becomes
+        (λ m. insert m (cell_line_entry line.now).0 (cell_line_entry line.now).1)))
+        (state S.Store tx.old.conn.now) (state S.Store tx.new.conn.now) result }
+    ensures opened { WasOpenInside (state S.Store tx.old.conn.now)
+        (state S.Store tx.new.conn.now) result }
+    ensures goes_on { GoesOnInside (state S.Store tx.old.conn.now)
+        (state S.Store tx.new.conn.now) result }
+    ensures kept { CommitsNothing (state S.Store tx.old.conn.now) (state S.Store tx.new.conn.now) }
+    ensures survives { Survives (state S.Store tx.old.conn.now) (state S.Store tx.new.conn.now)
+        (λ _. ⊥) }
+{
+    let rows = cells_of(tx, line.table.as_str(), id_bytes(&line.id))?;
+    if !are_of(rows.as_slice(), line.cells.as_slice()) {
+        return replace_row(tx, line);
+    }
+    update_head(tx, line)?;
+    update_cells(tx, line, rows.as_slice())
+}
+
 /// Puts a row in place of the one with its key. A new row takes only what adds it: where SQLite takes its head, there was none.
 fn put_row<S: Alter>(tx: &mut Transaction<'_, S>, line: &CellLine) -> Result<(), Error>
     ensures same_reference { tx.new.conn.ghost_name ≡ tx.old.conn.ghost_name }
@@ -273,7 +289,7 @@ fn put_row<S: Alter>(tx: &mut Transaction<'_, S>, line: &CellLine) -> Result<(),
 {
     match insert_head(tx, line) {
         Ok(()) => insert_cells(tx, line),
-        Err(Error::SqliteFailure(ErrorCode::ConstraintViolation(_))) => replace_row(tx, line),
+        Err(Error::SqliteFailure(ErrorCode::ConstraintViolation(_))) => update_row(tx, line),
         Err(other) => Err(other),
     }
 }

@@ -16,6 +16,8 @@ mod once;
 #[cfg(test)]
 mod opens;
 #[cfg(test)]
+mod places;
+#[cfg(test)]
 mod refusals;
 #[cfg(test)]
 mod stores;

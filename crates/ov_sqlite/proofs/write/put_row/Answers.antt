@@ -32,11 +32,11 @@ pub returns-in-Err-SqliteFailure-ConstraintViolation-clause-ok : goal.returns-in
 returns-in-Err-SqliteFailure-ConstraintViolation-clause-ok g c clean mode text may =
     let old = state g.S.Store c.args.tx.now.conn.now in
     let mid = state g.S.Store c.insert_head.new.tx.conn.now in
-    let new = state g.S.Store c.replace_row.new.tx.conn.now in
+    let new = state g.S.Store c.update_row.new.tx.conn.now in
     let line = c.args.line.now in
     let k : LineKey = (line.table, line.id) in
     let refused = c.in-Err-SqliteFailure-ConstraintViolation in
-    let early : HasCleanDisk mid = omega (arith, c.replace_row.ensures.survives.clean) in
+    let early : HasCleanDisk mid = omega (arith, c.update_row.ensures.survives.clean) in
     let same : IsUnchanged old mid = refused.ensures.refused early mode (refused.field-0-0-0, refused.field-0-is ∙ ap SqliteFailure refused.field-0-0-is) in
-    on_ok c.replace_row.result (c.replace_row.ensures.ok clean (subst IsTrue (sym same.0.mode) mode) text (may_same text old mid same may))
+    on_ok c.update_row.result (c.update_row.ensures.ok clean (subst IsTrue (sym same.0.mode) mode) text (may_same text old mid same may))
     (makes_same text (Becomes (λ m. insert m k (line.version, cells_view line.cells.items))) old mid new same)
