@@ -1,11 +1,12 @@
 -- What is read of the cells of a row, and what an UPDATE makes of the rows, as maps.
-use Rattle.std.proofs.Common.{◌≡◌, ℕ, List, [], ◌∷◌, map, filter, find, length, cond, Bool, true, false, ◌&&◌, ◌||◌, Option, Some, None, option_map, refl, sym, ap, ap₂, subst, ◌∙◌, arith}
+use Rattle.std.proofs.Common.{◌≡◌, ◌<◌, ℕ, List, [], ◌∷◌, map, filter, find, length, cond, Bool, true, false, ◌&&◌, ◌||◌, Option, Some, None, option_map, refl, sym, ap, ap₂, subst, ◌∙◌, codes}
 use Rattle.std.specs.List.{AllByRecursion, list_any}
 use Rattle.std.specs.List.Sorted.{IsPermutation}
 use Rattle.std.proofs.lemmas.List.{length-map}
 use Rattle.std.proofs.lemmas.List.Sorted.{IsPermutation-sym, length_permutation}
 use Rattle.std.proofs.lemmas.Bool.{and_parts, and_from}
 use Rattle.std.specs.Ordering.{eq_by_cmp}
+use Rattle.std.specs.Cmp.{eq_by_cmp_equiv}
 use Rattle.std.specs.FinMap.{get, insert, from_entries, find as entry_at, get-from_entries, get-insert, same_map}
 use Rattle.sqlite.specs.Order.{Row, column}
 use Rattle.sqlite_value.specs.Order.{bytes}
@@ -92,7 +93,7 @@ two_names : (name c : List ℕ) (r : Row) → eq_by_cmp name_cmp c (bytes (colum
 two_names name c r h = ap (eq_by_cmp name_cmp name) (sym (same_name_is c (bytes (column r 3)) h))
 
 turned_names : (a b : List ℕ) → eq_by_cmp name_cmp a b ≡ eq_by_cmp name_cmp b a
-turned_names a b = (Rattle.std.specs.Cmp.eq_by_cmp_equiv names_total).symm a b
+turned_names a b = (eq_by_cmp_equiv names_total).symm a b
 
 module _ (H C after : List Row) (k : LineKey) (name b : List ℕ) (same : IsPermutation (cells_with k name b C) after) (agree : (q : LineKey) (c : List ℕ) → Agree (has_cell q c) body_in after) where
   abbrev was_lines : CellLines
@@ -241,9 +242,9 @@ pub row_read : (text : List ℕ) (db : Database) → HoldsCells text db → (k :
 row_read text db stored k rows same some =
     let H = rows_of_head db.trees in
     let C = rows_of_cell db.trees in
-    let apart = apart_by_key db (Rattle.std.proofs.Common.codes "cell") _ _ (1 ∷ 2 ∷ 3 ∷ []) stored.format.schema.cell stored.sound in
+    let apart = apart_by_key db (codes "cell") _ _ (1 ∷ 2 ∷ 3 ∷ []) stored.format.schema.cell stored.sound in
     let cells = key_cells C rows k same (agree_cells C stored.format.cells apart stored.cells_numbered k) in
     let as_many : length rows ≡ length (with_key k C) = length_permutation (map cell_selected (with_key k C)) rows same ∙ length-map (with_key k C) cell_selected in
-    let any = some_counted (has_key k) C (omega (arith, some, as_many)) in
+    let any = some_counted (has_key k) C (subst (λ n. 0 < n) as_many some) in
     let head = any_found (has_key k) H (head_of_any H C k (heads_each H C stored.format.owned) any) in
     (version_in head.0, get_lines C H k ∙ ap (line_at C k) head.1 ∙ ap (λ (m : Cells). Some (version_in head.0, m)) cells)

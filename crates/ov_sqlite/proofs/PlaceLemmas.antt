@@ -38,7 +38,7 @@ body_kept k name body m l there has = put_back m k l there ∙ ap (λ (cells : C
 -- ---- a body in a list of cells
 
 -- the first cell of a column is found behind those of others
-found_behind : (name was : List ℕ) (front back : List CellEntry) → AllByRecursion (λ e. e.0 ≢ name) front → entry_at name_cmp name (front ++ (name, was) ∷ back) ≡ Some was
+found_behind : (name was : List ℕ) (front back : List CellEntry) → AllByRecursion (λ (e : CellEntry). e.0 ≢ name) front → entry_at name_cmp name (front ++ (name, was) ∷ back) ≡ Some was
 found_behind name was [] back apart = rw (name_itself name) refl
 found_behind name was (e ∷ front) back apart = go (eq_by_cmp name_cmp name e.0) refl
   where
@@ -50,7 +50,7 @@ twice : {X : Type 0} (b : Bool) (x y z : X) → cond b x z ≡ cond b x (cond b 
 twice true x y z = refl
 twice false x y z = refl
 
-changed_behind : (name was body : List ℕ) (front back : List CellEntry) → AllByRecursion (λ e. e.0 ≢ name) front
+changed_behind : (name was body : List ℕ) (front back : List CellEntry) → AllByRecursion (λ (e : CellEntry). e.0 ≢ name) front
     → (c : List ℕ) → entry_at name_cmp c (front ++ (name, body) ∷ back) ≡ cond (eq_by_cmp name_cmp c name) (Some body) (entry_at name_cmp c (front ++ (name, was) ∷ back))
 changed_behind name was body [] back apart c = twice (eq_by_cmp name_cmp c name) (Some body) (Some was) (entry_at name_cmp c back)
 changed_behind name was body (e ∷ front) back apart c = go (eq_by_cmp name_cmp c e.0) refl (eq_by_cmp name_cmp c name) refl (changed_behind name was body front back apart.1 c)

@@ -13,19 +13,16 @@ loop-at-preserved c =
     let cells = c.args.cells.now in
     let y = c.index-rows-at.result in
     let x = c.index-cells-at.result in
-    let low : i < length cells = omega (arith, c.loop-at-test.true, c.loop-at.invariant.end) in
+    let low : i < length cells = c.loop-at-test.true in
     let few : i < length rows = omega (arith, low, c.requires) in
     let is : column y 0 ≡ Text x.column = rw (c.as_bytes.ensures.value, c.as_str.ensures) at (c.is_text_at.ensures.0 c.if-not-is_text_at.false) in
-    record {
-      end = c.loop-at.invariant.end;
-      same = columns_push rows cells i y x few low c.index-rows-at.is c.index-cells-at.is (ap bytes is) c.loop-at.invariant.same;
-    }
+    columns_push rows cells i y x few low c.index-rows-at.is c.index-cells-at.is (ap bytes is) c.loop-at.invariant
 
 pub returns : goal.returns
 returns c yes =
     let i = c.loop-at.at in
     let rows = c.args.rows.now in
     let cells = c.args.cells.now in
-    let low : length cells ≤ i = omega (arith, c.loop-at-test.false, c.loop-at.invariant.end) in
+    let low : length cells ≤ i = omega (arith, c.loop-at-test.false) in
     let few : length rows ≤ i = omega (arith, low, c.requires) in
-    rw (take_all i rows few, take_all i cells low) at c.loop-at.invariant.same
+    rw (take_all i rows few, take_all i cells low) at c.loop-at.invariant

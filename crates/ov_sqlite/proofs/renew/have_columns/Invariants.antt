@@ -1,9 +1,6 @@
-use Rattle.std.proofs.Common.{◌≡◌, take, length}
+use Rattle.std.proofs.Common.{take}
 use Rattle.ov_sqlite.specs.Renewing.{AreOfColumns}
 use Rattle.ov_sqlite.proofs.renew.have_columns.Given as goal
 
 abbrev pub invariant-loop-at : goal.invariant-loop-at
-invariant-loop-at l = record {
-  end : l.at-end ≡ length l.cells;
-  same : AreOfColumns (take l.at l.rows) (take l.at l.cells);
-}
+invariant-loop-at l = AreOfColumns (take l.at l.rows) (take l.at l.cells)

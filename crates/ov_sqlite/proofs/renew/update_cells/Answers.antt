@@ -1,4 +1,4 @@
-use Rattle.std.proofs.Common.{◌≡◌, ◌<◌, ◌+◌, ◌∙◌, map, length, get_or, refl, subst, arith, List}
+use Rattle.std.proofs.Common.{◌≡◌, ◌<◌, ◌+◌, ◌∙◌, map, length, get_or, refl, ap, subst, arith, List}
 use Rattle.std.specs.FinMap.{from_entries}
 use Rattle.sqlite.specs.Order.{column}
 use Rattle.sqlite.specs.State.{HasCleanDisk}
@@ -22,7 +22,6 @@ loop-at-init g c =
     let k : LineKey = (line.table, line.id) in
     let s = state g.S.Store c.args.tx.now.conn.now in
     record {
-      end = ?end;
       same_reference = refl;
       survives = nothing_now _;
       goes_on = λ clean mode. mode;
@@ -45,9 +44,8 @@ loop-at-preserved g c =
     let y = c.index-rows-at.result in
     let items = c.as_slice-cells.ensures.value in
     let x_is : x ≡ get_or all i x = subst (λ (xs : List Cell). x ≡ get_or xs i x) items c.index-cells-at.is in
-    let low : i < length all = omega (arith, c.loop-at-test.true, c.loop-at.invariant.end) in
+    let low : i < length all = omega (arith, c.loop-at-test.true, ap length items) in
     record {
-      end = c.loop-at.invariant.end;
       same_reference = c.renew_cell.ensures.same_reference ∙ c.loop-at.invariant.same_reference;
       survives = nothing_then _ _ _ c.loop-at.invariant.survives c.renew_cell.ensures.survives;
       goes_on = λ clean mode. let early : HasCleanDisk mid = omega (arith, c.renew_cell.ensures.survives.clean) in
@@ -76,4 +74,4 @@ returns-clause-ok g c clean mode text may =
     let old = state g.S.Store c.args.tx.now.conn.now in
     let new = state g.S.Store c.loop-at.tx.conn.now in
     subst (λ es. MakesRows text (IsRenewed (line.table, line.id) (line.version, from_entries (map shown_entry rows)) (line.version, from_entries es)) old new)
-    (mixed_all i line.cells.items rows (omega (arith, c.loop-at-test.false, c.loop-at.invariant.end)) c.requires.as_many) (c.loop-at.invariant.makes clean mode text may)
+    (mixed_all i line.cells.items rows (omega (arith, c.loop-at-test.false, ap length c.as_slice-cells.ensures.value)) c.requires.as_many) (c.loop-at.invariant.makes clean mode text may)

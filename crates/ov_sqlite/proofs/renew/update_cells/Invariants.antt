@@ -1,4 +1,4 @@
-use Rattle.std.proofs.Common.{◌≡◌, map, length, IsTrue}
+use Rattle.std.proofs.Common.{◌≡◌, map, IsTrue}
 use Rattle.std.specs.Prelude.{List, ℕ}
 use Rattle.std.specs.FinMap.{from_entries}
 use Rattle.sqlite.specs.State.{HasCleanDisk, Survives, KeepsCommit}
@@ -14,7 +14,6 @@ invariant-loop-at g l =
     let old = state g.S.Store l.fn.tx.conn.now in
     let now = state g.S.Store l.tx.conn.now in
     record {
-      end : l.at-end ≡ length l.fn.line.cells.items;
       same_reference : l.tx.conn.ghost_name ≡ l.fn.tx.conn.ghost_name;
       survives : Survives old now (λ _. ⊥);
       goes_on : HasCleanDisk now → IsTrue old.in_transaction → IsTrue now.in_transaction;

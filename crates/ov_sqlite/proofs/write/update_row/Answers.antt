@@ -20,7 +20,7 @@ use Rattle.ov_sqlite.proofs.write.update_row.Goals as goal
 pub returns-then-not-are_of-clause-ok : goal.returns-then-not-are_of-clause-ok
 returns-then-not-are_of-clause-ok g c clean mode text may =
     let old = state g.S.Store c.args.tx.now.conn.now in
-    let mid = state g.S.Store c.cells_of-rows.new.tx.conn.now in
+    let mid = state g.S.Store c.cells_of.new.tx.conn.now in
     let new = state g.S.Store c.replace_row.new.tx.conn.now in
     let line = c.args.line.now in
     let k : LineKey = (line.table, line.id) in
@@ -33,7 +33,7 @@ returns-then-not-are_of-clause-ok g c clean mode text may =
 pub returns-clause-ok : goal.returns-clause-ok
 returns-clause-ok g c clean mode text may =
     let old = state g.S.Store c.args.tx.now.conn.now in
-    let zero = state g.S.Store c.cells_of-rows.new.tx.conn.now in
+    let zero = state g.S.Store c.cells_of.new.tx.conn.now in
     let one = state g.S.Store c.update_head.new.tx.conn.now in
     let new = state g.S.Store c.update_cells.new.tx.conn.now in
     let line = c.args.line.now in
