@@ -7,7 +7,7 @@ use Rattle.ov_db.specs.KeptDatabase.{KeptDatabase}
 use Rattle.ov_db.specs.declared.answer.StoreAnswer.{StoreAnswer}
 use Rattle.ov_db.specs.declared.answer.StoreAnswer.TheVariants as store
 use Rattle.ov_outbox.specs.Frames.{WaitingFrames, HasSameFrames, PostsSent, TakesPlaces, waiting_for, places_for, count_of, posted}
-use Rattle.ov_outbox.specs.Waits.{HasRoom}
+use Rattle.ov_outbox.specs.Waits.{HasPlaces}
 use Rattle.ov_specs.specs.locks.Queues.{Queues}
 use Rattle.ov_specs.specs.machine.Machine as machine
 use Rattle.ov_specs.specs.machine.Machine.{Sent, results_to, updates_sent}
@@ -53,7 +53,7 @@ module _ {K : Type 0} (outcome : TransactionOutcome) (old : KeptDatabase K) (was
   tried_room tried new is h other = omega (arith, tried_places tried new is h other)
 
   -- and after them the places that were kept before
-  pub tried_keeps : (tried : Tried) (new : KeptDatabase K) (is : Replying) → IsTried Prepares outcome (attempt_state old was) tried (attempt_state new is) → (queues : Queues) (left : WaitingFrames) → HasRoom was.queues queues → TakesPlaces is.prepared is.queues left → HasRoom left queues
+  pub tried_keeps : (tried : Tried) (new : KeptDatabase K) (is : Replying) → IsTried Prepares outcome (attempt_state old was) tried (attempt_state new is) → (queues : Queues) (left : WaitingFrames) → HasPlaces was.queues queues → TakesPlaces is.prepared is.queues left → HasPlaces left queues
   tried_keeps tried new is h queues left room takes session = omega (arith, tried_places tried new is h session, takes session, room session)
 
   -- and the same frames wait

@@ -8,7 +8,7 @@ use Rattle.std.specs.Prelude.{unwrap_or}
 use Rattle.ov_specs.specs.locks.Queues.{first_of, owner, with_queue, without, lock, steal, unlock, next_in, next_owner, locked_notification}
 use Rattle.ov_specs.specs.schema.SchemaTypes.{name_cmp}
 use Rattle.ov_specs.specs.wire.Frame.{frame}
-use Rattle.ov_locks.specs.Freeing.{told}
+use Rattle.ov_locks.specs.Freeing.{owner_notified}
 use Rattle.ov_locks.specs.Queued.{Queue, sessions_of, queues_of, AreToldOf, AllAreTold}
 use Rattle.ov_locks.proofs.Named.{Entries, text_order, text_is, queue-found, insert-queues, out-queues, set-queues, out-set, told-insert, told-set, told-found}
 use Rattle.ov_locks.proofs.Sessions.{waiting-back, told-back}
@@ -85,5 +85,5 @@ module _ (name : List ℕ) (session : ℕ) (es : Entries) where
     pub none-unlocks : with_queue name [] (queues_of es) ≡ unlock name session (queues_of es)
     none-unlocks = sym (ap (λ queue. with_queue name (without session queue) (queues_of es)) (queue-found name es None none))
 
-    pub nobody-next : None ≡ told name (next_owner name session (queues_of es))
-    nobody-next = sym (ap (λ queue. told name (next_in session queue)) (queue-found name es None none))
+    pub nobody-next : None ≡ owner_notified name (next_owner name session (queues_of es))
+    nobody-next = sym (ap (λ queue. owner_notified name (next_in session queue)) (queue-found name es None none))

@@ -3,7 +3,7 @@ use Rattle.std.proofs.Common.{◌≡◌, ℕ, List, [], ◌∷◌, ◌++◌, map
 use Rattle.std.specs.Prelude.{is_none, option_to_list, IfNone}
 use Rattle.ov_specs.specs.locks.Queues.{without, first_of, next_in, locked_notification}
 use Rattle.ov_specs.specs.wire.Frame.{frame}
-use Rattle.ov_locks.specs.Freeing.{told}
+use Rattle.ov_locks.specs.Freeing.{owner_notified}
 use Rattle.ov_locks.specs.Queued.{Waiters, Queue, sessions_of, without_waiter, owner_after, AreToldOf}
 
 abbrev pub waiting : Waiters → List ℕ
@@ -37,7 +37,7 @@ told-kept name session (waiter ∷ waiters) are = by (told-kept name session wai
 -- what a session leaves
 abbrev pub Leaves : ℕ → Queue → Queue → Option (ℕ × List ℕ) → Bool → Type 0
 Leaves session q new next is_last =
-    (cond is_last [] (sessions_of new) ≡ without session (sessions_of q)) × ((name : List ℕ) → AreToldOf name q.1 → AreToldOf name new.1 × (next ≡ told name (next_in session (sessions_of q))))
+    (cond is_last [] (sessions_of new) ≡ without session (sessions_of q)) × ((name : List ℕ) → AreToldOf name q.1 → AreToldOf name new.1 × (next ≡ owner_notified name (next_in session (sessions_of q))))
 
 -- one that is not the owner
 pub waiter-leaves : (session : ℕ) (q new : Queue) → new ≡ (q.0, without_waiter session q.1) → eqb q.0 session ≡ false → Leaves session q new None false
@@ -45,7 +45,7 @@ waiter-leaves session q new is other = (
   ap sessions_of is ∙ ap (λ ss. q.0 ∷ ss) (waiting-without session q.1) ∙ sym (ap (λ b. cond (not b) (q.0 ∷ without session (waiting q.1)) (without session (waiting q.1))) other),
   λ name are. (
     subst (λ (p : Queue). AreToldOf name p.1) (sym is) (told-kept name session q.1 are),
-    sym (ap (λ b. told name (cond b (first_of (without session (waiting q.1))) None)) other),
+    sym (ap (λ b. owner_notified name (cond b (first_of (without session (waiting q.1))) None)) other),
   ),
 )
 
@@ -71,7 +71,7 @@ owner-leaves session q mid new next is same waits owns none = by next waits owns
       sym (left ∙ sym rest ∙ ap waiting n),
       λ name are. (
         subst (AreToldOf name) w (are_told name are),
-        sym (ap (told name) (next_is ∙ ap (λ ws. first_of (waiting ws)) n)),
+        sym (ap (owner_notified name) (next_is ∙ ap (λ ws. first_of (waiting ws)) n)),
       ),
     )
     by (Some waiter) w o n = (
@@ -79,6 +79,6 @@ owner-leaves session q mid new next is same waits owns none = by next waits owns
       λ name are.
           let all : AreToldOf name (waiter ∷ new.1) = subst (AreToldOf name) w (are_told name are) in (
             all.1,
-            ap (λ text. Some (waiter.0, text)) all.0 ∙ sym (ap (told name) (next_is ∙ ap (λ ws. first_of (waiting ws)) w)),
+            ap (λ text. Some (waiter.0, text)) all.0 ∙ sym (ap (owner_notified name) (next_is ∙ ap (λ ws. first_of (waiting ws)) w)),
           ),
     )

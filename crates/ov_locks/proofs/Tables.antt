@@ -14,7 +14,7 @@ use Rattle.ov_specs.specs.schema.SchemaTypes.{name_cmp}
 use Rattle.ov_specs.proofs.laws.LockQueues.{DoQueuesAscend, with_queue-ascends, leave-ascends, names-lock, names-steal, names-unlock, names-leave, requested-names, remove-insert}
 use Rattle.ov_specs.proofs.laws.Names.{same_name-itself}
 use Rattle.ov_specs.proofs.laws.Truths.{or_truth}
-use Rattle.ov_locks.specs.Freeing.{told, told_all}
+use Rattle.ov_locks.specs.Freeing.{owner_notified, owners_notified}
 use Rattle.ov_locks.specs.Held.{HeldNames, names_in}
 use Rattle.ov_locks.specs.Refusing.{refusal_for, request_refusal, RefusesFor}
 use Rattle.ov_locks.specs.declared.fault.LockFault.{LockFault}
@@ -125,22 +125,22 @@ pub record Unlocking : Type 0 where
 abbrev pub IsLeft : ℕ → Unlocking → Unlocking → Type 0
 IsLeft session first now =
     (unlock_all session now.names now.queues ≡ unlock_all session first.names first.queues)
-    × (now.freeing.0 ++ told_all (freed_all session now.names now.queues) ≡ first.freeing.0 ++ told_all (freed_all session first.names first.queues))
+    × (now.freeing.0 ++ owners_notified (freed_all session now.names now.queues) ≡ first.freeing.0 ++ owners_notified (freed_all session first.names first.queues))
     × (now.freeing.1 + length first.names ≡ first.freeing.1 + length now.names)
     × (length now.names ≤ now.freeing.1)
 
-told-next : (name : List ℕ) (next : Option ℕ) (others : List (ℕ × List ℕ)) → told_all (freed_before next name others) ≡ option_to_list (told name next) ++ told_all others
+told-next : (name : List ℕ) (next : Option ℕ) (others : List (ℕ × List ℕ)) → owners_notified (freed_before next name others) ≡ option_to_list (owner_notified name next) ++ owners_notified others
 told-next name None others = refl
 told-next name (Some session) others = refl
 
 pub left-next : (session : ℕ) (first : Unlocking) (name : List ℕ) (rest : List (List ℕ)) (queues after : Queues) (now then : Freeing)
     → IsLeft session first (record { names = name ∷ rest; queues = queues; freeing = now })
-    → after ≡ unlock name session queues → then.0 ≡ now.0 ++ option_to_list (told name (next_owner name session queues)) → then.1 + 1 ≡ now.1
+    → after ≡ unlock name session queues → then.0 ≡ now.0 ++ option_to_list (owner_notified name (next_owner name session queues)) → then.1 + 1 ≡ now.1
     → IsLeft session first (record { names = rest; queues = after; freeing = then })
 left-next session first name rest queues after now then left is told_is places = (
   ap (unlock_all session rest) is ∙ left.0,
-  (λ i. told_is i ++ told_all (freed_all session rest (is i)))
-      ∙ append_assoc now.0 (option_to_list (told name (next_owner name session queues))) (told_all (freed_all session rest (unlock name session queues)))
+  (λ i. told_is i ++ owners_notified (freed_all session rest (is i)))
+      ∙ append_assoc now.0 (option_to_list (owner_notified name (next_owner name session queues))) (owners_notified (freed_all session rest (unlock name session queues)))
       ∙ ap (λ ps. now.0 ++ ps) (sym (told-next name (next_owner name session queues) (freed_all session rest (unlock name session queues)))) ∙ left.1,
   omega (arith, places, left.2),
   omega (arith, places, left.3),

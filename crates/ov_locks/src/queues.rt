@@ -3,7 +3,7 @@ ghost use Rattle.std.specs.Prelude.{IfOk, OnOk, OnErr};
 ghost use Rattle.ov_specs.specs.locks.Queues.{owner, next_in, next_owner, lock, steal, unlock};
 ghost use Rattle.ov_specs.specs.locks.Queues.{with_queue, without, stolen_notification};
 ghost use Rattle.ov_specs.specs.wire.Frame.{frame};
-ghost use Rattle.ov_locks.specs.Freeing.{told};
+ghost use Rattle.ov_locks.specs.Freeing.{owner_notified};
 ghost use Rattle.ov_locks.specs.Queued.{sessions_of, AreToldOf};
 
 use crate::queue::Queue;
@@ -97,7 +97,7 @@ impl Queues {
     /// The session leaves the queue of the lock. Returns the next owner, if the session was the owner and another waits, and
     /// the frame that notifies it. Allocates nothing.
     pub fn unlock(&mut self, session: u64, name: &str) -> Option<(u64, Bytes)>
-        ensures told { result ≡ told name.now (next_owner name.now session self.old) }
+        ensures told { result ≡ owner_notified name.now (next_owner name.now session self.old) }
         ensures queues { self.new ≡ unlock name.now session self.old }
     {
         let (next, is_last) = self.leave(session, name);
@@ -109,7 +109,7 @@ impl Queues {
 
     /// Like `unlock`, but does not remove the queue if nobody else is in it, and returns whether that is so.
     fn leave(&mut self, session: u64, name: &str) -> (Option<(u64, Bytes)>, bool)
-        ensures told { result.0 ≡ told name.now (next_owner name.now session self.old) }
+        ensures told { result.0 ≡ owner_notified name.now (next_owner name.now session self.old) }
         ensures queues { (if result.1 then with_queue name.now [] self.new else self.new)
             ≡ unlock name.now session self.old }
     {
@@ -127,7 +127,7 @@ fn leave_queue(queue: &mut Queue, session: u64) -> (Option<(u64, Bytes)>, bool)
         ≡ without session (sessions_of queue.old) }
     ensures told { (name : List ℕ) → AreToldOf name queue.old.1
         → AreToldOf name queue.new.1
-        × (result.0 ≡ told name (next_in session (sessions_of queue.old))) }
+        × (result.0 ≡ owner_notified name (next_in session (sessions_of queue.old))) }
 {
     queue.drop_waiter(session);
     if queue.owner() != session {

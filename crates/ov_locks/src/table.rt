@@ -10,7 +10,7 @@ ghost use Rattle.ov_specs.specs.locks.Queues.{next_owner, unlock_all, freed_all,
 ghost use Rattle.ov_specs.specs.locks.Queues.{stolen_notification, requests_of, DoQueuesAscend};
 ghost use Rattle.ov_specs.specs.schema.SchemaTypes.{name_cmp};
 ghost use Rattle.ov_specs.specs.wire.Frame.{frame};
-ghost use Rattle.ov_locks.specs.Freeing.{told, told_all};
+ghost use Rattle.ov_locks.specs.Freeing.{owner_notified, owners_notified};
 ghost use Rattle.ov_locks.specs.Held.{names_in, names_of_set, requests_in};
 ghost use Rattle.ov_locks.specs.Refusing.{refusal_for, request_refusal, RefusesFor};
 
@@ -133,7 +133,7 @@ impl LockTable {
     pub fn unlock(&mut self, session: u64, name: &str) -> Result<Option<(u64, Bytes)>, LockFault>
         ensures answer { result
             ≡ (if has_requested session name.now self.old.0 then Ok
-            (told name.now (next_owner name.now session self.old.0)) else Err
+            (owner_notified name.now (next_owner name.now session self.old.0)) else Err
             LockFault.NotHeld) }
         ensures ok { OnOk result (self.new ≡ (unlock name.now session self.old.0, self.old.1)) }
         ensures err { OnErr result (self.new ≡ self.old) }
@@ -149,7 +149,7 @@ impl LockTable {
     /// `next_freed`, in ascending order of the locks' names, after earlier ones. Allocates nothing.
     pub fn leave_all(&mut self, session: u64)
         ensures { self.new
-            ≡ (leave session self.old.0, self.old.1 ++ told_all (freed session self.old.0)) }
+            ≡ (leave session self.old.0, self.old.1 ++ owners_notified (freed session self.old.0)) }
     {
         if let Some(names) = self.held.take(session) {
             leave_each(&mut self.queues, &mut self.freed, session, names);
@@ -219,7 +219,7 @@ fn leave_each(queues: &mut Queues, freed: &mut Freed, session: u64, names: BTree
     requires { length (names_of_set names) ≤ freed.old.1 }
     ensures queues { queues.new ≡ unlock_all session (names_of_set names) queues.old }
     ensures freed { freed.new.0
-        ≡ freed.old.0 ++ told_all (freed_all session (names_of_set names) queues.old) }
+        ≡ freed.old.0 ++ owners_notified (freed_all session (names_of_set names) queues.old) }
     ensures places { freed.new.1 + length (names_of_set names) ≡ freed.old.1 }
 {
     for name in names {
@@ -232,7 +232,7 @@ fn leave_one(queues: &mut Queues, freed: &mut Freed, session: u64, name: &str)
     requires { 0 < freed.old.1 }
     ensures queues { queues.new ≡ unlock name.now session queues.old }
     ensures freed { freed.new.0
-        ≡ freed.old.0 ++ option_to_list (told name.now (next_owner name.now session queues.old)) }
+        ≡ freed.old.0 ++ option_to_list (owner_notified name.now (next_owner name.now session queues.old)) }
     ensures places { freed.new.1 + 1 ≡ freed.old.1 }
 {
     match queues.unlock(session, name) {

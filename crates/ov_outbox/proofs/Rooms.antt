@@ -13,7 +13,7 @@ use Rattle.ov_locks.specs.declared.fault.LockFault.{LockFault}
 use Rattle.ov_locks.specs.declared.fault.LockFault.TheVariants.{NotHeld}
 use Rattle.ov_outbox.specs.Asking.{sent_of_call}
 use Rattle.ov_outbox.specs.Frames.{WaitingFrames, places_for, count_of, posted, frames_for, waiting_for, HasSameFrames, PostsFrame, HasSamePlaces, KeepsPlace, KeepsTwoFor, GivesUpPlace, GivesUpPlaces, TakesPlaces, PostsAll, PostsSent}
-use Rattle.ov_outbox.specs.Waits.{waits_of, HasRoom}
+use Rattle.ov_outbox.specs.Waits.{waits_of, HasPlaces}
 use Rattle.ov_outbox.proofs.Releasing.{turned, HavePlaces, frames_for-first, posts_sent}
 use Rattle.ov_outbox.proofs.Waiting.{one_for, waits-lock, waits-steal, waits-unlock, waiter-unlocks, next-not_first, waits-leave, leaver-waits}
 
@@ -22,7 +22,7 @@ abbrev pub TableValue : Type 0
 TableValue = Queues × List (ℕ × List ℕ)
 
 -- a session that waits nowhere needs no place
-pub given_up-room : (s : ℕ) (queues : Queues) (old new : WaitingFrames) → HasRoom old queues → waits_of s queues ≡ 0 → GivesUpPlaces s old new → HasRoom new queues
+pub given_up-room : (s : ℕ) (queues : Queues) (old new : WaitingFrames) → HasPlaces old queues → waits_of s queues ≡ 0 → GivesUpPlaces s old new → HasPlaces new queues
 given_up-room s queues old new room none given other = by (eqb other s) refl
   where
     by : (b : Bool) → eqb other s ≡ b → waits_of other queues ≤ places_for other new
@@ -36,7 +36,7 @@ given_up-room s queues old new room none given other = by (eqb other s) refl
 count_of_notification : (other s : ℕ) (f : List ℕ) → count_of other ((s, f) ∷ []) ≡ cond (eqb s other) 1 0
 count_of_notification other s f = let p : ℕ × List ℕ = (s, f) in sum_by-cons (λ (q : ℕ × List ℕ). cond {A = ℕ} (eqb q.0 other) 1 0) p [] ∙ omega arith
 
-module _ (name : List ℕ) (s : ℕ) (queues : Queues) (ascend : DoQueuesAscend queues) (first : WaitingFrames) (room : HasRoom first queues) where
+module _ (name : List ℕ) (s : ℕ) (queues : Queues) (ascend : DoQueuesAscend queues) (first : WaitingFrames) (room : HasPlaces first queues) where
   -- ---- lock
 
   module _ (kept sent : WaitingFrames) (keeps : KeepsTwoFor (Some s) first kept) (takes : GivesUpPlace s kept sent) (after : Queues) (is : after ≡ lock name s queues) where
@@ -44,7 +44,7 @@ module _ (name : List ℕ) (s : ℕ) (queues : Queues) (ascend : DoQueuesAscend 
     waits-after other = ap (waits_of other) is ∙ waits-lock other name s queues ascend
 
     -- the session waits, and keeps one of the places
-    pub waits-room : HasRoom sent after
+    pub waits-room : HasPlaces sent after
     waits-room other = by (is_some (owner name queues)) (waits-after other)
       where
         by : (b : Bool) → waits_of other after ≡ waits_of other queues + cond b (cond (eqb other s) 1 0) 0 → waits_of other after ≤ places_for other sent
@@ -52,7 +52,7 @@ module _ (name : List ℕ) (s : ℕ) (queues : Queues) (ascend : DoQueuesAscend 
         by false all = omega (arith, room other, keeps other, takes other)
 
     -- it is the owner, and gives up both
-    pub owner-room : (end : WaitingFrames) → GivesUpPlace s sent end → is_some (owner name queues) ≡ false → HasRoom end after
+    pub owner-room : (end : WaitingFrames) → GivesUpPlace s sent end → is_some (owner name queues) ≡ false → HasPlaces end after
     owner-room end gives none other =
         let all : waits_of other after ≡ waits_of other queues + 0 = waits-after other ∙ ap (λ b. waits_of other queues + cond b (cond (eqb other s) 1 0) 0) none in
         omega (arith, room other, keeps other, takes other, gives other)
@@ -61,7 +61,7 @@ module _ (name : List ℕ) (s : ℕ) (queues : Queues) (ascend : DoQueuesAscend 
 
   -- the former owner is notified in one of its two places
   pub told-room : (former : Option ℕ) (message : Option (ℕ × List ℕ)) (kept both sent end : WaitingFrames) → KeepsPlace s first kept → KeepsTwoFor former kept both → GivesUpPlace s both sent
-      → TakesPlaces (option_to_list message) sent end → (f : List ℕ) → former ≡ owner name queues → message ≡ option_map (λ o. (o, f)) (owner name queues) → (after : Queues) → after ≡ steal name s queues → HasRoom end after
+      → TakesPlaces (option_to_list message) sent end → (f : List ℕ) → former ≡ owner name queues → message ≡ option_map (λ o. (o, f)) (owner name queues) → (after : Queues) → after ≡ steal name s queues → HasPlaces end after
   told-room former message kept both sent end keeps two takes tells f is message_is after after_is other =
       by (owner name queues) (ap (waits_of other) after_is ∙ waits-steal other name s queues ascend) (subst (λ (o : Option ℕ). KeepsTwoFor o kept both) is two)
       (subst (λ (n : Option (ℕ × List ℕ)). places_for other end + count_of other (option_to_list n) ≡ places_for other sent) message_is (tells other))
@@ -82,10 +82,10 @@ module _ (name : List ℕ) (s : ℕ) (queues : Queues) (ascend : DoQueuesAscend 
     reply_taken other = omega (arith, keeps other, takes other)
 
     -- the session that becomes the owner has a place
-    pub next-place : (message : Option (ℕ × List ℕ)) → message ≡ freeing.told name (next_owner name s queues) → IfSome message (λ p. 0 < places_for p.0 sent)
+    pub next-place : (message : Option (ℕ × List ℕ)) → message ≡ freeing.owner_notified name (next_owner name s queues) → IfSome message (λ p. 0 < places_for p.0 sent)
     next-place message is = subst (λ (n : Option (ℕ × List ℕ)). IfSome n (λ p. 0 < places_for p.0 sent)) (sym is) (by (next_owner name s queues) (λ other. waits-unlock other name s queues ascend))
       where
-        by : (o : Option ℕ) → ((other : ℕ) → waits_of other (unlock name s queues) + one_for other o ≤ waits_of other queues) → IfSome (freeing.told name o) (λ p. 0 < places_for p.0 sent)
+        by : (o : Option ℕ) → ((other : ℕ) → waits_of other (unlock name s queues) + one_for other o ≤ waits_of other queues) → IfSome (freeing.owner_notified name o) (λ p. 0 < places_for p.0 sent)
         by None less = tt
         by (Some next) less =
             let here : waits_of next (unlock name s queues) + one_for next (Some next) ≤ waits_of next queues = less next in
@@ -94,13 +94,13 @@ module _ (name : List ℕ) (s : ℕ) (queues : Queues) (ascend : DoQueuesAscend 
             let same = reply_taken next in
             omega arith
 
-    module _ (notification : Option (ℕ × List ℕ)) (is : notification ≡ freeing.told name (next_owner name s queues)) (end : WaitingFrames) (tells : TakesPlaces (option_to_list notification) sent end)
+    module _ (notification : Option (ℕ × List ℕ)) (is : notification ≡ freeing.owner_notified name (next_owner name s queues)) (end : WaitingFrames) (tells : TakesPlaces (option_to_list notification) sent end)
         (after : Queues) (after_is : after ≡ unlock name s queues) where
-      count_is : (other : ℕ) (o : Option ℕ) → count_of other (option_to_list (freeing.told name o)) ≡ one_for other o
+      count_is : (other : ℕ) (o : Option ℕ) → count_of other (option_to_list (freeing.owner_notified name o)) ≡ one_for other o
       count_is other None = refl
       count_is other (Some next) = count_of_notification other next (frame (locked_notification name))
 
-      pub unlock-room : HasRoom end after
+      pub unlock-room : HasPlaces end after
       unlock-room other =
           let less : waits_of other after + one_for other (next_owner name s queues) ≤ waits_of other queues =
           subst (λ (q : Queues). waits_of other q + one_for other (next_owner name s queues) ≤ waits_of other queues) (sym after_is) (waits-unlock other name s queues ascend) in
@@ -111,7 +111,7 @@ module _ (name : List ℕ) (s : ℕ) (queues : Queues) (ascend : DoQueuesAscend 
           omega arith
 
       -- one that waited gives up its place too
-      pub waiter-room : has_requested s name queues ≡ true → owns queues s name ≡ false → (least : WaitingFrames) → GivesUpPlace s end least → HasRoom least after
+      pub waiter-room : has_requested s name queues ≡ true → owns queues s name ≡ false → (least : WaitingFrames) → GivesUpPlace s end least → HasPlaces least after
       waiter-room stands apart least gives other = by (eqb other s) refl (gives other)
         where
           not_owner : (o : Option ℕ) → is_some_and (λ first. eqb first s) o ≡ false → one_for s o ≡ 0
@@ -140,13 +140,13 @@ replies s f notifications first kept sent end same added all other =
     all other ∙ ap (λ fs. fs ++ frames_for other notifications) (added other ∙ ap (λ fs. fs ++ cond (eqb other s) (f ∷ []) []) (same other))
     ∙ append_assoc (waiting_for other first) _ (frames_for other notifications) ∙ ap (λ fs. waiting_for other first ++ fs) (sym (frames_for-first other s f notifications))
 
-unlock-posted : (s : ℕ) (id : Data) (name : List ℕ) (o : Option ℕ) → (s, frame (reply_tree id (object no_members))) ∷ option_to_list (freeing.told name o)
+unlock-posted : (s : ℕ) (id : Data) (name : List ℕ) (o : Option ℕ) → (s, frame (reply_tree id (object no_members))) ∷ option_to_list (freeing.owner_notified name o)
     ≡ map posted (record { session = s; tree = reply_tree id (object no_members) } ∷ told (option_to_list (option_map (λ next. (next, locked_notification name)) o)))
 unlock-posted s id name None = refl
 unlock-posted s id name (Some next) = refl
 
 pub unlock-sends : (s : ℕ) (id : Data) (name : List ℕ) (queues : Queues) (reply : List ℕ) (notification : Option (ℕ × List ℕ)) (first kept sent end : WaitingFrames)
-    → reply ≡ frame (reply_tree id (object no_members)) → notification ≡ freeing.told name (next_owner name s queues)
+    → reply ≡ frame (reply_tree id (object no_members)) → notification ≡ freeing.owner_notified name (next_owner name s queues)
     → HasSameFrames first kept → PostsFrame s reply kept sent → PostsAll (option_to_list notification) sent end → PostsSent (sent_of_call (record { call = Unlock; session = s; id = id; name = name }) queues) first end
 unlock-sends s id name queues reply notification first kept sent end reply_is notification_is same added all =
     posts_sent ((s, reply) ∷ option_to_list notification) first end (replies s reply (option_to_list notification) first kept sent end same added all) (sent_of_call (record { call = Unlock; session = s; id = id; name = name }) queues)
@@ -159,25 +159,25 @@ unlocks false next to result was is = absurd cc
 
 -- ---- leaving
 
-count_of-told : (other : ℕ) (freed : List (ℕ × List ℕ)) → count_of other (freeing.told_all freed) ≡ count_of other freed
+count_of-told : (other : ℕ) (freed : List (ℕ × List ℕ)) → count_of other (freeing.owners_notified freed) ≡ count_of other freed
 count_of-told other [] = refl
 count_of-told other (p ∷ freed) =
-    sum_by-cons _ (p.0, frame (locked_notification p.1)) (freeing.told_all freed) ∙ ap (λ n. cond (eqb p.0 other) 1 0 + n) (count_of-told other freed) ∙ sym (sum_by-cons _ p freed)
+    sum_by-cons _ (p.0, frame (locked_notification p.1)) (freeing.owners_notified freed) ∙ ap (λ n. cond (eqb p.0 other) 1 0 + n) (count_of-told other freed) ∙ sym (sum_by-cons _ p freed)
 
-told_all-posted : (freed : List (ℕ × List ℕ)) → freeing.told_all freed ≡ map posted (told (map (λ f. (f.0, locked_notification f.1)) freed))
+told_all-posted : (freed : List (ℕ × List ℕ)) → freeing.owners_notified freed ≡ map posted (told (map (λ f. (f.0, locked_notification f.1)) freed))
 told_all-posted [] = refl
 told_all-posted (p ∷ freed) = ap (λ ps. (p.0, frame (locked_notification p.1)) ∷ ps) (told_all-posted freed)
 
-module _ (s : ℕ) (queues : Queues) (ascend : DoQueuesAscend queues) (first : WaitingFrames) (room : HasRoom first queues) where
-  pub freed-places : HavePlaces (freeing.told_all (freed s queues)) first
+module _ (s : ℕ) (queues : Queues) (ascend : DoQueuesAscend queues) (first : WaitingFrames) (room : HasPlaces first queues) where
+  pub freed-places : HavePlaces (freeing.owners_notified (freed s queues)) first
   freed-places other =
       let has = room other in
       let less = waits-leave other s queues ascend in
       let count = count_of-told other (freed s queues) in
       omega arith
 
-  module _ (mid : WaitingFrames) (takes : TakesPlaces (freeing.told_all (freed s queues)) first mid) (end : WaitingFrames) (gives : GivesUpPlaces s mid end) where
-    pub leave-room : HasRoom end (leave s queues)
+  module _ (mid : WaitingFrames) (takes : TakesPlaces (freeing.owners_notified (freed s queues)) first mid) (end : WaitingFrames) (gives : GivesUpPlaces s mid end) where
+    pub leave-room : HasPlaces end (leave s queues)
     leave-room =
         given_up-room s (leave s queues) mid end
         (λ other.
@@ -188,10 +188,10 @@ module _ (s : ℕ) (queues : Queues) (ascend : DoQueuesAscend queues) (first : W
         omega arith)
         (leaver-waits s queues ascend) gives
 
-pub leaving-posts : (s : ℕ) (queues : Queues) (first mid end : WaitingFrames) → PostsAll (freeing.told_all (freed s queues)) first mid → HasSameFrames mid end → PostsSent (told (told_of_leaving s queues)) first end
+pub leaving-posts : (s : ℕ) (queues : Queues) (first mid end : WaitingFrames) → PostsAll (freeing.owners_notified (freed s queues)) first mid → HasSameFrames mid end → PostsSent (told (told_of_leaving s queues)) first end
 leaving-posts s queues first mid end all same =
-    posts_sent (freeing.told_all (freed s queues)) first end (λ other. same other ∙ all other) (told (told_of_leaving s queues)) (told_all-posted (freed s queues))
+    posts_sent (freeing.owners_notified (freed s queues)) first end (λ other. same other ∙ all other) (told (told_of_leaving s queues)) (told_all-posted (freed s queues))
 
 -- the notified sessions, if none was to be notified before
-pub left : (s : ℕ) (old new : TableValue) → new ≡ (leave s old.0, old.1 ++ freeing.told_all (freed s old.0)) → old.1 ≡ [] → new.1 ≡ freeing.told_all (freed s old.0)
-left s old new is none = ap (λ (t : TableValue). t.1) is ∙ ap (λ ps. ps ++ freeing.told_all (freed s old.0)) none
+pub left : (s : ℕ) (old new : TableValue) → new ≡ (leave s old.0, old.1 ++ freeing.owners_notified (freed s old.0)) → old.1 ≡ [] → new.1 ≡ freeing.owners_notified (freed s old.0)
+left s old new is none = ap (λ (t : TableValue). t.1) is ∙ ap (λ ps. ps ++ freeing.owners_notified (freed s old.0)) none

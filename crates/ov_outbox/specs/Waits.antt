@@ -15,8 +15,8 @@ waits_of session [] = 0
 waits_of session (e ∷ queues) = waits_in session e.1 + waits_of session queues
 
 -- a place is kept for each notification that may have to be sent
-abbrev pub HasRoom : WaitingFrames → Queues → Type 0
-HasRoom frames queues = (session : ℕ) → waits_of session queues ≤ places_for session frames
+abbrev pub HasPlaces : WaitingFrames → Queues → Type 0
+HasPlaces frames queues = (session : ℕ) → waits_of session queues ≤ places_for session frames
 
 -- the session has asked for no lock
 abbrev pub IsOutOfQueues : ℕ → Queues → Type 0

@@ -9,7 +9,7 @@ ghost use Rattle.ov_specs.specs.wire.Frame.{frame, reply_tree};
 ghost use Rattle.ov_outbox.specs.Asking.{IsAsked, parts};
 ghost use Rattle.ov_outbox.specs.Frames.{places_for, count_of, PostsAll, PostsSent, HasSameFrames};
 ghost use Rattle.ov_outbox.specs.Frames.{HasSamePlaces, KeepsTwoFor, GivesUpTwoFor, TakesPlaces};
-ghost use Rattle.ov_outbox.specs.Waits.{HasRoom};
+ghost use Rattle.ov_outbox.specs.Waits.{HasPlaces};
 
 use crate::frames::FrameQueues;
 use ov_base::{Bytes, Tree};
@@ -38,11 +38,11 @@ pub(crate) fn lock(
     name: &str,
 ) -> Result<(), LockFault>
     requires order { DoQueuesAscend locks.old.0 }
-    requires room { HasRoom frames.old locks.old.0 }
+    requires room { HasPlaces frames.old locks.old.0 }
     ensures asked { IsAsked
         (record { call = Lock; session = session; id = id.now; name = name.now })
         (parts frames.old locks.old.0) result (parts frames.new locks.new.0) }
-    ensures room { HasRoom frames.new locks.new.0 }
+    ensures room { HasPlaces frames.new locks.new.0 }
     ensures freed { locks.new.1 ≡ locks.old.1 }
 {
     let is_first = locks.owner(name).is_none();
@@ -75,11 +75,11 @@ pub(crate) fn steal(
     name: &str,
 ) -> Result<(), LockFault>
     requires order { DoQueuesAscend locks.old.0 }
-    requires room { HasRoom frames.old locks.old.0 }
+    requires room { HasPlaces frames.old locks.old.0 }
     ensures asked { IsAsked
         (record { call = Steal; session = session; id = id.now; name = name.now })
         (parts frames.old locks.old.0) result (parts frames.new locks.new.0) }
-    ensures room { HasRoom frames.new locks.new.0 }
+    ensures room { HasPlaces frames.new locks.new.0 }
     ensures freed { locks.new.1 ≡ locks.old.1 }
 {
     let former = locks.owner(name);
@@ -116,11 +116,11 @@ pub(crate) fn unlock(
     name: &str,
 ) -> Result<(), LockFault>
     requires order { DoQueuesAscend locks.old.0 }
-    requires room { HasRoom frames.old locks.old.0 }
+    requires room { HasPlaces frames.old locks.old.0 }
     ensures asked { IsAsked
         (record { call = Unlock; session = session; id = id.now; name = name.now })
         (parts frames.old locks.old.0) result (parts frames.new locks.new.0) }
-    ensures room { HasRoom frames.new locks.new.0 }
+    ensures room { HasPlaces frames.new locks.new.0 }
     ensures freed { locks.new.1 ≡ locks.old.1 }
 {
     let was_owner = owns(locks, session, name);
@@ -147,11 +147,11 @@ pub(crate) fn unlock(
 /// The session leaves all queues, and the new owners are notified. Allocates nothing.
 pub(crate) fn leave(frames: &mut FrameQueues, locks: &mut LockTable, session: u64)
     requires freed { locks.old.1 ≡ [] }
-    requires room { HasRoom frames.old locks.old.0 }
+    requires room { HasPlaces frames.old locks.old.0 }
     ensures queues { locks.new.0 ≡ leave session locks.old.0 }
     ensures posts { PostsSent (told (told_of_leaving session locks.old.0)) frames.old frames.new }
     ensures freed { locks.new.1 ≡ [] }
-    ensures room { HasRoom frames.new locks.new.0 }
+    ensures room { HasPlaces frames.new locks.new.0 }
 {
     locks.in_order();
     locks.leave_all(session);

@@ -7,7 +7,7 @@ ghost use Rattle.ov_specs.specs.machine.Machine.{told};
 ghost use Rattle.ov_outbox.specs.Asking.{IsAsked};
 ghost use Rattle.ov_outbox.specs.Frames.{waiting_for, has_queue, PostsFrame, PostsSent};
 ghost use Rattle.ov_outbox.specs.Frames.{HasSameFrames, ClearsSession};
-ghost use Rattle.ov_outbox.specs.Waits.{HasRoom, IsOutOfQueues};
+ghost use Rattle.ov_outbox.specs.Waits.{HasPlaces, IsOutOfQueues};
 
 use crate::frames::FrameQueues;
 use crate::locking;
@@ -28,7 +28,7 @@ impl Model for Outbox {
     ghost use Rattle.std.specs.Prelude.{◌≡◌, []};
     ghost use Rattle.ov_outbox.specs.Outbox as outbox;
     ghost use Rattle.ov_outbox.specs.Outbox.{outbox_code};
-    ghost use Rattle.ov_outbox.specs.Waits.{HasRoom};
+    ghost use Rattle.ov_outbox.specs.Waits.{HasPlaces};
 
     ghost Value = { outbox.Outbox };
 
@@ -36,7 +36,7 @@ impl Model for Outbox {
 
     ghost view = { λ o. record { frames = o.frames; queues = o.locks.0 } };
 
-    ghost invariant = { λ o. HasRoom o.frames o.locks.0 × (o.locks.1 ≡ []) };
+    ghost invariant = { λ o. HasPlaces o.frames o.locks.0 × (o.locks.1 ≡ []) };
 }
 
 impl Outbox {
@@ -53,7 +53,7 @@ impl Outbox {
     /// Joins these frames and these locks: no session is still to be notified of a lock, and the places are kept.
     pub fn from_parts(frames: FrameQueues, locks: LockTable) -> Outbox
         requires freed { locks.1 ≡ [] }
-        requires room { HasRoom frames locks.0 }
+        requires room { HasPlaces frames locks.0 }
         ensures { result ≡ record { frames = frames; queues = locks.0 } }
     {
         Outbox { frames, locks }
@@ -64,7 +64,7 @@ impl Outbox {
         ensures frames { result.0 ≡ self.frames }
         ensures queues { result.1.0 ≡ self.queues }
         ensures freed { result.1.1 ≡ [] }
-        ensures room { HasRoom result.0 result.1.0 }
+        ensures room { HasPlaces result.0 result.1.0 }
     {
         let Outbox { frames, locks } = self;
         (frames, locks)

@@ -18,7 +18,7 @@ abbrev pub most_outstanding : ℕ
 most_outstanding = 4096
 
 -- the room of the two queues: each of them takes as many as may wait
-pub record HasRoom (untried outstanding room_untried room_outstanding : ℕ) : Type 0 where
+pub record HasWaitingRoom (untried outstanding room_untried room_outstanding : ℕ) : Type 0 where
   pub first : most_outstanding ≤ room_untried
   pub second : most_outstanding ≤ room_outstanding
   pub few : untried + outstanding ≤ most_outstanding

@@ -29,7 +29,7 @@ impl Model for Waiting {
     ghost use Rattle.std.specs.Coded.{codes};
     ghost use Rattle.std.specs.VecDeque.{deque_len, deque_capacity};
     ghost use Rattle.ov_specs.specs.codes.TreeCode.{tree_code, items_code};
-    ghost use Rattle.ov_requests.specs.Waiting.{WaitingList, HasRoom};
+    ghost use Rattle.ov_requests.specs.Waiting.{WaitingList, HasWaitingRoom};
 
     ghost Value = { WaitingList };
 
@@ -37,7 +37,7 @@ impl Model for Waiting {
 
     ghost view = { λ w. record { untried = w.untried.items; outstanding = w.outstanding.items } };
 
-    ghost invariant = { λ w. HasRoom (deque_len w.untried) (deque_len w.outstanding)
+    ghost invariant = { λ w. HasWaitingRoom (deque_len w.untried) (deque_len w.outstanding)
         (deque_capacity w.untried) (deque_capacity w.outstanding) };
 }
 

@@ -5,7 +5,7 @@ use Rattle.serde_json.specs.Data.{Data, Items, no_items, item}
 use Rattle.serde_json.specs.View.{items_of}
 use Rattle.serde_json.specs.Written.{compact_text, items_text, comma_if}
 use Rattle.ov_specs.specs.operations.Transaction.{and_item}
-use Rattle.ov_results.specs.Texts.{joined, has_none}
+use Rattle.ov_results.specs.Texts.{comma_joined, has_none}
 
 regroup : (a b c d : List ℕ) → a ++ (b ++ (c ++ d)) ≡ (a ++ (b ++ c)) ++ d
 regroup a b c d = ap (λ t. a ++ t) (sym (append_assoc b c d)) ∙ sym (append_assoc a (b ++ c) d)
@@ -14,17 +14,17 @@ regroup a b c d = ap (λ t. a ++ t) (sym (append_assoc b c d)) ∙ sym (append_a
 pub in_turn : (text a b c t u v : List ℕ) → t ≡ text ++ a → u ≡ t ++ b → v ≡ u ++ c → v ≡ text ++ (a ++ (b ++ c))
 in_turn text a b c t u v first second third = third ∙ ap (λ x. x ++ c) (second ∙ ap (λ x. x ++ b) first) ∙ append_assoc (text ++ a) b c ∙ append_assoc text a (b ++ c)
 
-pub closed : (later : Bool) (items : Items) → items_text later items ≡ joined later items ++ 93 ∷ []
+pub closed : (later : Bool) (items : Items) → items_text later items ≡ comma_joined later items ++ 93 ∷ []
 closed later no_items = refl
-closed later (item d items) = ap (λ t. comma_if later ++ (compact_text d ++ t)) (closed true items) ∙ regroup (comma_if later) (compact_text d) (joined true items) (93 ∷ [])
+closed later (item d items) = ap (λ t. comma_if later ++ (compact_text d ++ t)) (closed true items) ∙ regroup (comma_if later) (compact_text d) (comma_joined true items) (93 ∷ [])
 
 -- one more after none, and after some
-longer : (later : Bool) (items : Items) (more : Data) → joined later (and_item items more) ≡ joined later items ++ (comma_if (if has_none items then later else true) ++ compact_text more)
+longer : (later : Bool) (items : Items) (more : Data) → comma_joined later (and_item items more) ≡ comma_joined later items ++ (comma_if (if has_none items then later else true) ++ compact_text more)
 longer later no_items more = ap (λ t. comma_if later ++ t) (append-nil (compact_text more))
-longer later (item d no_items) more = ap (λ t. comma_if later ++ (compact_text d ++ t)) (longer true no_items more) ∙ regroup (comma_if later) (compact_text d) (joined true no_items) (comma_if true ++ compact_text more)
-longer later (item d (item e items)) more = ap (λ t. comma_if later ++ (compact_text d ++ t)) (longer true (item e items) more) ∙ regroup (comma_if later) (compact_text d) (joined true (item e items)) (comma_if true ++ compact_text more)
+longer later (item d no_items) more = ap (λ t. comma_if later ++ (compact_text d ++ t)) (longer true no_items more) ∙ regroup (comma_if later) (compact_text d) (comma_joined true no_items) (comma_if true ++ compact_text more)
+longer later (item d (item e items)) more = ap (λ t. comma_if later ++ (compact_text d ++ t)) (longer true (item e items) more) ∙ regroup (comma_if later) (compact_text d) (comma_joined true (item e items)) (comma_if true ++ compact_text more)
 
-pub with_more : (items : Items) (more : Data) → joined false (and_item items more) ≡ joined false items ++ (comma_if (not (has_none items)) ++ compact_text more)
+pub with_more : (items : Items) (more : Data) → comma_joined false (and_item items more) ≡ comma_joined false items ++ (comma_if (not (has_none items)) ++ compact_text more)
 with_more no_items more = longer false no_items more
 with_more (item d items) more = longer false (item d items) more
 

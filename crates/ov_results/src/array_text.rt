@@ -21,7 +21,7 @@ pub struct ArrayText {
 impl Model for ArrayText {
     ghost use Rattle.std.specs.Prelude.{◌≡◌, false};
     ghost use Rattle.serde_json.specs.Data.{Items};
-    ghost use Rattle.ov_results.specs.Texts.{joined, has_none};
+    ghost use Rattle.ov_results.specs.Texts.{comma_joined, has_none};
     ghost use Rattle.ov_specs.specs.codes.TreeCode.{items_code};
 
     ghost Value = { Items };
@@ -30,7 +30,7 @@ impl Model for ArrayText {
 
     ghost view = { λ a. a.trace.items };
 
-    ghost invariant = { λ a. (a.text.items ≡ joined false a.trace.items)
+    ghost invariant = { λ a. (a.text.items ≡ comma_joined false a.trace.items)
         × (a.is_empty ≡ has_none a.trace.items) };
 }
 

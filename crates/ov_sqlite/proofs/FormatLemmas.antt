@@ -9,7 +9,7 @@ use Rattle.ov_keeper.specs.declared.keeper.Lines.{Lines}
 use Rattle.ov_keeper.specs.declared.keeper.Lines.TheVariants.{Whole, InCells}
 use Rattle.ov_keeper.specs.Views.{lines_view}
 use Rattle.ov_tables.specs.Tables.{meta_table, tree_of, HasTable, HasLineTables, HasCellTables, HasOurTables}
-use Rattle.ov_tables.specs.Format.{IsMeta, IsFormatRow, IsSchemaRow, NamesOther, held, rows_of_meta}
+use Rattle.ov_tables.specs.Format.{IsMeta, IsFormatRow, IsSchemaRow, NamesOther, stored_in, rows_of_meta}
 use Rattle.ov_tables.specs.Holding.{IsStoredAs}
 use Rattle.ov_sqlite.specs.Reading.{ReadsLines, are_cells}
 use Rattle.ov_sqlite.proofs.HeldLemmas.{schema_is, names_lines, held_cells_meta}
@@ -70,7 +70,7 @@ other_named db n t b tables m apart = go b tables apart (known_number n t (rows_
 -- ---- the rows
 
 -- what was read is what is held
-pub read_held : (db : Database) (n : ℕ) (t : List ℕ) (lines : Lines) → IsMeta n t (rows_of_meta db.trees) → are_cells lines ≡ (n == 2) → ReadsLines db lines → held db.trees ≡ record { schema = t; lines = lines_view lines }
+pub read_held : (db : Database) (n : ℕ) (t : List ℕ) (lines : Lines) → IsMeta n t (rows_of_meta db.trees) → are_cells lines ≡ (n == 2) → ReadsLines db lines → stored_in db.trees ≡ record { schema = t; lines = lines_view lines }
 read_held db n t (InCells lines) m is reads =
     let two = two_by n (known_number n t (rows_of_meta db.trees) m) is in
     held_cells_meta t db.trees (subst (λ k. IsMeta k t (rows_of_meta db.trees)) two m) ∙ ap (λ l. record { schema = t; lines = LinesInCells l }) reads.joined

@@ -19,7 +19,7 @@ use Rattle.ov_specs.specs.rows.Lines.{LineKey, LineBody, line_cmp}
 use Rattle.ov_specs.specs.rows.Cells.{Whole, InCells, cell_lines, cells_at, have_heads}
 use Rattle.ov_specs.proofs.laws.LineKeys.{key_total, key_exact}
 use Rattle.ov_tables.specs.Tables.{line_table, HasTable, HasCellTables}
-use Rattle.ov_tables.specs.Format.{IsKeyed, IsLine, IsHead, IsCell, IsMeta, IsFormatRow, IsSchemaRow, row_key, entry, head_of, cell_of, is_cells_row, stored_schema, stored_lines, stored_cells, held, rows_of_meta, rows_of_line, rows_of_head, rows_of_cell}
+use Rattle.ov_tables.specs.Format.{IsKeyed, IsLine, IsHead, IsCell, IsMeta, IsFormatRow, IsSchemaRow, row_key, entry, head_of, cell_of, is_cells_row, stored_schema, stored_lines, stored_cells, stored_in, rows_of_meta, rows_of_line, rows_of_head, rows_of_cell}
 use Rattle.ov_tables.specs.Holding.{IsNumbered, HoldsLines, HoldsCells}
 use Rattle.ov_sqlite.specs.Joining.{AreDistinct, AreNumbered}
 use Rattle.ov_tables.specs.Querying.{meta_selected, head_selected, row_selected}
@@ -181,13 +181,13 @@ names_lines text rows m = ap (list_any is_cells_row) m.all ∙ go m.are
     go (inr p) = rw (schema_no_format (column m.first 1) p.0.key, text_itself (column m.second 1) (codes "format") p.1.key, names_one (column m.second 2) p.1.value) refl
 
 -- what is held in format 2, by what `meta` says
-pub held_cells_meta : (text : List ℕ) (trees : Trees) → IsMeta 2 text (rows_of_meta trees) → held trees ≡ record { schema = text; lines = InCells (stored_cells trees) }
+pub held_cells_meta : (text : List ℕ) (trees : Trees) → IsMeta 2 text (rows_of_meta trees) → stored_in trees ≡ record { schema = text; lines = InCells (stored_cells trees) }
 held_cells_meta text trees m = rw (schema_is 2 text (rows_of_meta trees) m, names_cells text (rows_of_meta trees) m) refl
 
-pub held_cells : (text : List ℕ) (db : Database) → HoldsCells text db → held db.trees ≡ record { schema = text; lines = InCells (stored_cells db.trees) }
+pub held_cells : (text : List ℕ) (db : Database) → HoldsCells text db → stored_in db.trees ≡ record { schema = text; lines = InCells (stored_cells db.trees) }
 held_cells text db it = held_cells_meta text db.trees it.format.meta
 
-pub held_lines : (text : List ℕ) (db : Database) → HoldsLines text db → held db.trees ≡ record { schema = text; lines = Whole (stored_lines (rows_of_line db.trees)) }
+pub held_lines : (text : List ℕ) (db : Database) → HoldsLines text db → stored_in db.trees ≡ record { schema = text; lines = Whole (stored_lines (rows_of_line db.trees)) }
 held_lines text db it = rw (schema_is 1 text (rows_of_meta db.trees) it.format.meta, names_lines text (rows_of_meta db.trees) it.format.meta) refl
 
 -- ---- the order in which the rows are read

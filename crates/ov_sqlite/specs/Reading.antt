@@ -18,7 +18,7 @@ use Rattle.ov_keeper.specs.declared.keeper.Loaded.{Loaded}
 use Rattle.ov_keeper.specs.Keeping.{loaded_contents}
 use Rattle.ov_keeper.specs.Views.{line_entry, cell_line_entry, lines_view}
 use Rattle.ov_tables.specs.Tables.{HasLineTables, HasCellTables, HasOurTables}
-use Rattle.ov_tables.specs.Format.{IsLine, IsHead, IsCell, entry, head_of, cell_of, stored_lines, stored_cells, held, rows_of_line, rows_of_head, rows_of_cell}
+use Rattle.ov_tables.specs.Format.{IsLine, IsHead, IsCell, entry, head_of, cell_of, stored_lines, stored_cells, stored_in, rows_of_line, rows_of_head, rows_of_cell}
 use Rattle.ov_tables.specs.Holding.{IsNumbered, IsStoredAs}
 use Rattle.ov_tables.specs.Querying.{IsAsBefore, head_selected}
 use Rattle.ov_sqlite.specs.Joining.{AreNumbered, line_parts, head_parts}
@@ -111,4 +111,4 @@ MayHaveTables s = IsTrue s.is_open → HasOurTables s.now.schema
 -- the tables are those of the format of these lines, and this is what they hold
 pub record IsHeldBy (db : Database) (loaded : Loaded) : Type 0 where
   pub stored : IsStoredAs (format_of (lines_view loaded.lines)) loaded.schema db
-  pub holds : held db.trees ≡ loaded_contents loaded
+  pub holds : stored_in db.trees ≡ loaded_contents loaded

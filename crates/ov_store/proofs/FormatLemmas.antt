@@ -8,7 +8,7 @@ use Rattle.ov_specs.specs.rows.Cells.{Stored, StoredLines, Whole, InCells, forma
 use Rattle.ov_keeper.specs.Keeping.{LeavesNoMore, LeavesMade, MayLeaveMade, changed}
 use Rattle.ov_keeper.specs.declared.keeper.Loaded.{Loaded}
 use Rattle.ov_tables.specs.Tables.{HasOurTables}
-use Rattle.ov_tables.specs.Format.{IsFormat, held, rows_of_meta}
+use Rattle.ov_tables.specs.Format.{IsFormat, stored_in, rows_of_meta}
 use Rattle.ov_tables.specs.Holding.{HoldsLines, HoldsCells, IsStored, IsStoredAs}
 use Rattle.ov_tables.specs.Querying.{IsAsBefore}
 use Rattle.ov_sqlite.proofs.HeldLemmas.{schema_is, held_lines, held_cells}
@@ -17,7 +17,7 @@ use Rattle.ov_store.specs.StoreState.{MayFind, IsAtRest, text_in}
 -- ---- the tables of a format
 
 -- what is stored in a format is held in that format
-pub stored_format : (n : ℕ) (text : List ℕ) (db : Database) → IsStoredAs n text db → format_of (held db.trees).lines ≡ n
+pub stored_format : (n : ℕ) (text : List ℕ) (db : Database) → IsStoredAs n text db → format_of (stored_in db.trees).lines ≡ n
 stored_format n text db (inl (is, lines)) = ap (λ (s : Stored). format_of s.lines) (held_lines text db lines) ∙ sym is
 stored_format n text db (inr (is, cells)) = ap (λ (s : Stored). format_of s.lines) (held_cells text db cells) ∙ sym is
 

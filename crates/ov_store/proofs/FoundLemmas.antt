@@ -14,7 +14,7 @@ use Rattle.ov_keeper.specs.Keeping.{LeavesNoMore, LeavesMade, MayLeaveMade, Leav
 use Rattle.ov_keeper.specs.declared.fault.KeepFault.{KeepFault}
 use Rattle.ov_keeper.specs.declared.fault.KeepFault.TheVariants.{Memory, Device, NotOurs, Format, TooLarge}
 use Rattle.ov_tables.specs.Tables.{row_trees, line_trees, cell_trees}
-use Rattle.ov_tables.specs.Format.{held, stored_cells, head_of, cell_of, IsMeta, rows_of_meta, rows_of_head, rows_of_cell}
+use Rattle.ov_tables.specs.Format.{stored_in, stored_cells, head_of, cell_of, IsMeta, rows_of_meta, rows_of_head, rows_of_cell}
 use Rattle.ov_tables.specs.Holding.{MayBeStored, MayHoldCells, KeepsOthers}
 use Rattle.ov_sqlite.specs.Changing.{Stores, IsCommitImage}
 use Rattle.ov_tables.specs.Emptying.{KeepsRest}
@@ -49,18 +49,18 @@ device_or Format = inr (λ e. absurd cc)
 
 -- the same rows of `meta`, in format 2, and rows that are changed
 pub held_changed : (text : List ℕ) (changes : List CellChange) (before after : Trees) → IsMeta 2 text (rows_of_meta before) → rows_of_meta after ≡ rows_of_meta before
-    → stored_cells after ≡ after_cell_changes changes (stored_cells before) → held after ≡ changed changes (held before)
+    → stored_cells after ≡ after_cell_changes changes (stored_cells before) → stored_in after ≡ changed changes (stored_in before)
 held_changed text changes before after named meta cells =
     held_cells_meta text after (subst (IsMeta 2 text) (sym meta) named)
     ∙ ap (λ (rows : CellLines). record { schema = text; lines = InCells rows }) cells
     ∙ sym (ap (changed changes) (held_cells_meta text before named))
 
 -- format 2 with these rows
-pub held_is : (text : List ℕ) (trees : Trees) (lines : CellLines) → IsMeta 2 text (rows_of_meta trees) → stored_cells trees ≡ lines → held trees ≡ record { schema = text; lines = InCells lines }
+pub held_is : (text : List ℕ) (trees : Trees) (lines : CellLines) → IsMeta 2 text (rows_of_meta trees) → stored_cells trees ≡ lines → stored_in trees ≡ record { schema = text; lines = InCells lines }
 held_is text trees lines named cells = held_cells_meta text trees named ∙ ap (λ (rows : CellLines). record { schema = text; lines = InCells rows }) cells
 
 -- format 2 without a row
-pub held_none : (text : List ℕ) (trees : Trees) → IsMeta 2 text (rows_of_meta trees) → rows_of_head trees ≡ [] → rows_of_cell trees ≡ [] → held trees ≡ new_contents text
+pub held_none : (text : List ℕ) (trees : Trees) → IsMeta 2 text (rows_of_meta trees) → rows_of_head trees ≡ [] → rows_of_cell trees ≡ [] → stored_in trees ≡ new_contents text
 held_none text trees named heads cells = held_is text trees empty named (ap₂ (λ hs cs. cell_lines (map head_of hs) (map cell_of cs)) heads cells)
 
 rest_now : (schema : Schema) (trees : Trees) → KeepsRest schema trees trees
@@ -68,23 +68,23 @@ rest_now schema trees = (λ _. (others_now (line_trees schema) schema trees).tab
 
 module _ {S : Type 0} (g : Ghosts S) (settled : (s : S) (db : Trees) → IsTrue (g.view s).is_open → g.recovers s db → db ≡ (g.view s).committed)
     (stays : (s : S) → IsTrue (g.view s).is_open → g.recovers s (g.view s).committed) where
-  pub was_found : (c : Connected S) → IsTrue (state g c).is_open → (state g c).now ≡ (state g c).committed → MayFind g c (held (state g c).now.trees)
-  was_found c up same = ((g.view c.store).committed, stays c.store up, ap (λ (d : Database). held d.trees) same)
+  pub was_found : (c : Connected S) → IsTrue (state g c).is_open → (state g c).now ≡ (state g c).committed → MayFind g c (stored_in (state g c).now.trees)
+  was_found c up same = ((g.view c.store).committed, stays c.store up, ap (λ (d : Database). stored_in d.trees) same)
 
-  pub found_is : (c : Connected S) → IsTrue (state g c).is_open → (state g c).now ≡ (state g c).committed → (contents : Stored) → MayFind g c contents → contents ≡ held (state g c).now.trees
-  found_is c up same contents found = found.2 ∙ ap held (settled c.store found.0 up found.1) ∙ sym (ap (λ (d : Database). held d.trees) same)
+  pub found_is : (c : Connected S) → IsTrue (state g c).is_open → (state g c).now ≡ (state g c).committed → (contents : Stored) → MayFind g c contents → contents ≡ stored_in (state g c).now.trees
+  found_is c up same contents found = found.2 ∙ ap stored_in (settled c.store found.0 up found.1) ∙ sym (ap (λ (d : Database). stored_in d.trees) same)
 
   -- what is held became what `made` makes of it, and that is committed
   pub leaves_made : (made : Stored → Stored) (old new : Connected S) → IsTrue (state g old).is_open × ((state g old).now ≡ (state g old).committed) × IsTrue (state g new).is_open × ((state g new).now ≡ (state g new).committed)
-      → held (state g new).now.trees ≡ made (held (state g old).now.trees) → LeavesMade made (MayFind g old) (MayFind g new)
-  leaves_made made old new done is h found = (held (state g old).now.trees, was_found old done.0 done.1, found_is new done.2 done.3 h found ∙ is)
+      → stored_in (state g new).now.trees ≡ made (stored_in (state g old).now.trees) → LeavesMade made (MayFind g old) (MayFind g new)
+  leaves_made made old new done is h found = (stored_in (state g old).now.trees, was_found old done.0 done.1, found_is new done.2 done.3 h found ∙ is)
 
   -- what a commit may write is what `made` makes of what was held
   pub may_leave_made : (made : Stored → Stored) (old new : Connected S) (P : Trees → Type 0) → HasCleanDisk (state g new) → Survives (state g old) (state g new) P
-      → ((trees : Trees) → P trees → IsTrue (state g old).is_open × ((state g old).now ≡ (state g old).committed) × (held trees ≡ made (held (state g old).now.trees))) → MayLeaveMade made (MayFind g old) (MayFind g new)
+      → ((trees : Trees) → P trees → IsTrue (state g old).is_open × ((state g old).now ≡ (state g old).committed) × (stored_in trees ≡ made (stored_in (state g old).now.trees))) → MayLeaveMade made (MayFind g old) (MayFind g new)
   may_leave_made made old new P clean s image h found = elim (s.crash clean found.0 found.1) [
     | inl before ↦ inl (found.0, before, found.2)
-    | inr written ↦ let it = image found.0 written in inr (held (state g old).now.trees, was_found old it.0 it.1, found.2 ∙ it.2)
+    | inr written ↦ let it = image found.0 written in inr (stored_in (state g old).now.trees, was_found old it.0 it.1, found.2 ∙ it.2)
   ]
 
   pub stores_changes : (text : List ℕ) (changes : List CellChange) (old new : Connected S) → Stores text (after_cell_changes changes) (state g old) (state g new) → LeavesMade (changed changes) (MayFind g old) (MayFind g new)

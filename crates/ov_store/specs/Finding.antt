@@ -16,7 +16,7 @@ use Rattle.ov_specs.specs.rows.Cells.{Stored, InCells}
 use Rattle.ov_keeper.specs.declared.fault.KeepFault.{KeepFault}
 use Rattle.ov_keeper.specs.declared.fault.KeepFault.TheVariants.{Device, NotOurs, Format}
 use Rattle.ov_tables.specs.Tables.{no_schema, HasOurTables}
-use Rattle.ov_tables.specs.Format.{IsFormat, NamesOther, held}
+use Rattle.ov_tables.specs.Format.{IsFormat, NamesOther, stored_in}
 use Rattle.ov_tables.specs.Making.{IsNewFile}
 use Rattle.ov_tables.specs.Querying.{IsAsBefore}
 use Rattle.ov_store.specs.Refusing.{fault_of_open}
@@ -41,7 +41,7 @@ module _ {S : Type 0} (g : Ghosts S) where
     pub tables : HasOurTables c.schema
     pub honest : HasCleanDisk (state g s.connection) → HasCleanDisk (state g c)
     pub format : HasCleanDisk (state g s.connection) → IsFormat (text_in (state g c).now) (state g c).now
-    pub holds : HasCleanDisk (state g s.connection) → Opens (state g c) → (contents : Stored) → MayFind g s.connection contents → contents ≡ held (state g c).now.trees
+    pub holds : HasCleanDisk (state g s.connection) → Opens (state g c) → (contents : Stored) → MayFind g s.connection contents → contents ≡ stored_in (state g c).now.trees
 
   -- the store is one of the two
   abbrev pub IsStoreOf : List ℕ → Connected S → StoreState S → Type 0
@@ -72,7 +72,7 @@ module _ {S : Type 0} (g : Ghosts S) where
   -- why what a crash left of a store is not one: it is among the contents that an open might find, and these are refused
   pub record IsRefusedAgain (s : StoreState S) (left : Connected S) (fault : KeepFault) : Type 0 where
     pub again : Connected S
-    pub opened : HasCleanDisk (state g again) → Opens (state g again) × MayFind g s.connection (held (state g again).now.trees)
+    pub opened : HasCleanDisk (state g again) → Opens (state g again) × MayFind g s.connection (stored_in (state g again).now.trees)
     pub ours : fault ≡ NotOurs → IsForeign again left
     pub foreign : ¬ HasOurTables again.schema → fault ≡ NotOurs
     pub format : fault ≡ Format → HasCleanDisk (state g left) → (any : List ℕ) → ¬ IsFormat any (state g again).now
@@ -91,7 +91,7 @@ pub record IsStoredIn (image : Image) (contents : Stored) : Type 0 where
   pub found : AreFoundIn image db.trees
   pub text : List ℕ
   pub format : IsFormat text db
-  pub contents_are : contents ≡ held db.trees
+  pub contents_are : contents ≡ stored_in db.trees
 
 module _ {D : Type 0} {g : disk.Ghosts D} where
   -- SQLite opened the files and found what they held, which has no store

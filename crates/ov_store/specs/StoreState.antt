@@ -12,7 +12,7 @@ use Rattle.ov_keeper.specs.declared.keeper.Loaded.{Loaded}
 use Rattle.ov_keeper.specs.Keeping.{loaded_contents}
 use Rattle.ov_keeper.specs.Views.{lines_view}
 use Rattle.ov_tables.specs.Tables.{row_trees}
-use Rattle.ov_tables.specs.Format.{held, stored_schema, rows_of_meta}
+use Rattle.ov_tables.specs.Format.{stored_in, stored_schema, rows_of_meta}
 use Rattle.ov_tables.specs.Holding.{IsStoredAs, KeepsOthers}
 use Rattle.ov_tables.specs.Emptying.{KeepsRest}
 
@@ -34,7 +34,7 @@ text_in db = stored_schema (rows_of_meta db.trees)
 module _ {S : Type 0} (g : Ghosts S) where
   -- what an open at this moment may find
   abbrev pub MayFind : Connected S → Stored → Type 0
-  MayFind c contents = (trees : Trees) × (state g c).may_leave trees × (contents ≡ held trees)
+  MayFind c contents = (trees : Trees) × (state g c).may_leave trees × (contents ≡ stored_in trees)
 
   -- the rows that an opening read are of the format, and they are what an open may find
   pub record IsWhatIsFound (c : Connected S) (format : ℕ) (loaded : Loaded) : Type 0 where

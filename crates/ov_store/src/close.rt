@@ -4,7 +4,7 @@ ghost use Rattle.std.specs.Prelude.{◌≡◌, IfOk, OnOk, IfErr, IsTrue};
 ghost use Rattle.sqlite_wal.specs.Reads.{AreClean};
 ghost use Rattle.sqlite.specs.Held.{state};
 ghost use Rattle.ov_keeper.specs.Keeping.{IsLoadFault};
-ghost use Rattle.ov_tables.specs.Format.{held};
+ghost use Rattle.ov_tables.specs.Format.{stored_in};
 ghost use Rattle.ov_store.specs.StoreState.{MayFind};
 ghost use Rattle.ov_store.specs.Whole.{IsWhole, WasWhole};
 
@@ -21,7 +21,7 @@ impl<S: Alter> Store<S> {
     fn found(&self)
         ensures { IsTrue (state S.Store self.now.connection).is_open
             → (contents : _) → MayFind S.Store self.now.connection contents
-            → contents ≡ held (state S.Store self.now.connection).committed.trees }
+            → contents ≡ stored_in (state S.Store self.now.connection).committed.trees }
     {}
 }
 
@@ -31,7 +31,7 @@ impl<S: Alter + Drop> Store<S> {
         ensures same { result ≡ self.connection }
         ensures found { IsTrue (state S.Store self.connection).is_open
             → (contents : _) → MayFind S.Store self.connection contents
-            → contents ≡ held (state S.Store self.connection).committed.trees }
+            → contents ≡ stored_in (state S.Store self.connection).committed.trees }
     {
         self.found();
         self.close()

@@ -7,7 +7,7 @@ ghost use Rattle.sqlite.specs.declared.error.ErrorCode.TheVariants.{OutOfMemory}
 ghost use Rattle.sqlite.specs.State.{HasCleanDisk, Opens};
 ghost use Rattle.sqlite.specs.Held.{state};
 ghost use Rattle.ov_keeper.specs.Keeping.{IsLoadFault};
-ghost use Rattle.ov_tables.specs.Format.{held};
+ghost use Rattle.ov_tables.specs.Format.{stored_in};
 ghost use Rattle.ov_store.specs.StoreState.{MayFind, IsOfItsFormat};
 ghost use Rattle.ov_store.specs.Finding.{IsRefusedAgain};
 
@@ -48,7 +48,7 @@ fn crash_and_reopen<S: Alter + Reopen + Drop>(
     store: Store<S>,
 ) -> Result<Connection<S>, (KeepFault, S)>
     ensures found { IfOk result (λ c. HasCleanDisk (state S.Store c)
-        → MayFind S.Store store.connection (held (state S.Store c).now.trees)) }
+        → MayFind S.Store store.connection (stored_in (state S.Store c).now.trees)) }
     ensures opens { IfOk result (λ c. HasCleanDisk (state S.Store c) → Opens (state S.Store c)) }
     ensures mode { IfOk result (λ c. c.in_transaction ≡ false) }
     ensures kinds { IfErr result (λ e. IsLoadFault e.0) }

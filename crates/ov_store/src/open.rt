@@ -2,7 +2,7 @@ ghost use Rattle.std.specs.Prelude.{◌≡◌, ◌≢◌, ◌⊎◌, ◌↔◌, 
 ghost use Rattle.sqlite.specs.State.{HasCleanDisk, Survives};
 ghost use Rattle.sqlite.specs.Held.{state};
 ghost use Rattle.ov_keeper.specs.Keeping.{IsCommitFault};
-ghost use Rattle.ov_tables.specs.Tables.{with_ours, HasRoom, HasOurTables};
+ghost use Rattle.ov_tables.specs.Tables.{with_ours, HasFreeNames, HasOurTables};
 ghost use Rattle.ov_tables.specs.Format.{IsFormat};
 ghost use Rattle.ov_tables.specs.Making.{MayMake, IsNew, IsNewBeside};
 ghost use Rattle.ov_tables.specs.Querying.{IsAsBefore};
@@ -62,13 +62,13 @@ impl<S: Alter + Drop> Store<S> {
         ensures honest { IfOk result (λ s. HasCleanDisk (state S.Store s.connection)
             → HasCleanDisk (state S.Store connection)) }
         ensures fresh { IfOk result (λ s. s.failures ≡ 0) }
-        ensures room { IfOk result (λ s. HasRoom connection.schema) }
+        ensures room { IfOk result (λ s. HasFreeNames connection.schema) }
         ensures beside { IfOk result (λ s. HasCleanDisk (state S.Store s.connection)
             → s.connection.schema ≡ with_ours connection.schema) }
         ensures others { IfOk result (λ s. HasCleanDisk (state S.Store s.connection)
             → LeavesTables S.Store connection s.connection) }
         ensures ours { IfErr result (λ e. (e.fault ≡ KeepFault.NotOurs)
-            ↔ (¬ HasRoom connection.schema)) }
+            ↔ (¬ HasFreeNames connection.schema)) }
         ensures told { IfErr result (λ e. (e.fault ≡ KeepFault.NotOurs)
             ⊎ WasAnswered Making e.fault) }
         ensures format { IfErr result (λ e. e.fault ≢ KeepFault.Format) }

@@ -14,7 +14,7 @@ use Rattle.sqlite.specs.State.{State, Writes, Executes}
 use Rattle.sqlite.proofs.Callers.{IsPlain, command_of, statement_of, runs_as}
 use Rattle.sqlite_rules.specs.Lists.{Has}
 use Rattle.sqlite_rules.proofs.ListLemmas.{all_has, all_from, has_right}
-use Rattle.ov_tables.specs.Tables.{meta_table, head_table, cell_table, tree_of, with_row_tables, HasRoomFor, HasRoom, HasTable, create_meta, create_head, create_cell}
+use Rattle.ov_tables.specs.Tables.{meta_table, head_table, cell_table, tree_of, with_row_tables, HasFreeName, HasFreeNames, HasTable, create_meta, create_head, create_cell}
 use Rattle.ov_tables.specs.Format.{rows_of}
 use Rattle.ov_tables.specs.Making.{Creates, CreatesRows, IsBare, MakesOurs, Fills, MakesFilled}
 use Rattle.ov_tables.proofs.TableLemmas.{found_has, tree_is}
@@ -53,19 +53,19 @@ module _ (old new : State) (count : ℕ) (counts : lacks_sequence old.now.schema
   abbrev schema : Schema
   schema = old.now.schema
 
-  pub creates_meta : HasRoomFor schema (codes "meta") → Executes create_meta [] old new (Ok count) → WasCreated schema (created schema (meta_table 0)) (next_tree schema) old new
+  pub creates_meta : HasFreeName schema (codes "meta") → Executes create_meta [] old new (Ok count) → WasCreated schema (created schema (meta_table 0)) (next_tree schema) old new
   creates_meta room h =
       let free = is_free schema (codes "meta") room.free in
       let known = meta_understood schema free.table free.index free.view in
       creates create_meta schema (meta_table 0) (ap command_of known) (ap (statement_of create_meta) known) meta_defined (subst IsPlain (sym known) (refl, refl)) (counts_kept schema (meta_table 0) refl counts) old new count refl h
 
-  pub creates_head : HasRoomFor schema (codes "head") → Executes create_head [] old new (Ok count) → WasCreated schema (created schema (head_table 0)) (next_tree schema) old new
+  pub creates_head : HasFreeName schema (codes "head") → Executes create_head [] old new (Ok count) → WasCreated schema (created schema (head_table 0)) (next_tree schema) old new
   creates_head room h =
       let free = is_free schema (codes "head") room.free in
       let known = head_understood schema free.table free.index free.view in
       creates create_head schema (head_table 0) (ap command_of known) (ap (statement_of create_head) known) head_defined (subst IsPlain (sym known) (refl, refl)) (counts_kept schema (head_table 0) refl counts) old new count refl h
 
-  pub creates_cell : HasRoomFor schema (codes "cell") → Executes create_cell [] old new (Ok count) → WasCreated schema (created schema (cell_table 0)) (next_tree schema) old new
+  pub creates_cell : HasFreeName schema (codes "cell") → Executes create_cell [] old new (Ok count) → WasCreated schema (created schema (cell_table 0)) (next_tree schema) old new
   creates_cell room h =
       let free = is_free schema (codes "cell") room.free in
       let known = cell_understood schema free.table free.index free.view in
@@ -74,10 +74,10 @@ module _ (old new : State) (count : ℕ) (counts : lacks_sequence old.now.schema
 -- ---- `head` and `cell`
 
 -- the room for `cell`, once `head` is made
-pub room_for_cell : (old mid : State) → HasRoomFor old.now.schema (codes "cell") → lacks_sequence old.now.schema ≡ false → Creates (head_table 0) old mid
-    → HasRoomFor mid.now.schema (codes "cell") × (lacks_sequence mid.now.schema ≡ false)
+pub room_for_cell : (old mid : State) → HasFreeName old.now.schema (codes "cell") → lacks_sequence old.now.schema ≡ false → Creates (head_table 0) old mid
+    → HasFreeName mid.now.schema (codes "cell") × (lacks_sequence mid.now.schema ≡ false)
 room_for_cell old mid room counts head = (
-  subst (λ s. HasRoomFor s (codes "cell")) (sym head.schema) (cell_after_head old.now.schema room),
+  subst (λ s. HasFreeName s (codes "cell")) (sym head.schema) (cell_after_head old.now.schema room),
   subst (λ s. lacks_sequence s ≡ false) (sym head.schema) (counts_kept old.now.schema (head_table 0) refl counts),
 )
 
@@ -103,7 +103,7 @@ rows_at : (db : Database) (table : Table) (tree : ℕ) → HasTable db.schema ta
 rows_at db table tree has sound is = rows_are db table has sound ∙ ap db.trees is
 
 -- beside `meta`, which has no rows, these two make up stored format 2
-module _ (old new : State) (m : ℕ) (meta : HasTable old.now.schema (meta_table m)) (head_room : HasRoomFor old.now.schema (codes "head")) (cell_room : HasRoomFor old.now.schema (codes "cell")) (was : IsDatabase old.now) (c : CreatesRows old new) where
+module _ (old new : State) (m : ℕ) (meta : HasTable old.now.schema (meta_table m)) (head_room : HasFreeName old.now.schema (codes "head")) (cell_room : HasFreeName old.now.schema (codes "cell")) (was : IsDatabase old.now) (c : CreatesRows old new) where
   abbrev first : Schema
   first = old.now.schema
 
@@ -138,16 +138,16 @@ module _ (old new : State) (m : ℕ) (meta : HasTable old.now.schema (meta_table
 -- ---- all three
 
 -- the room for the tables of the rows, once `meta` is made
-pub room_for_rows : (old mid : State) → HasRoom old.now.schema → Creates (meta_table 0) old mid → HasRoomFor mid.now.schema (codes "head") × HasRoomFor mid.now.schema (codes "cell") × (lacks_sequence mid.now.schema ≡ false) × IsDatabase mid.now
+pub room_for_rows : (old mid : State) → HasFreeNames old.now.schema → Creates (meta_table 0) old mid → HasFreeName mid.now.schema (codes "head") × HasFreeName mid.now.schema (codes "cell") × (lacks_sequence mid.now.schema ≡ false) × IsDatabase mid.now
 room_for_rows old mid room meta =
     let schema = old.now.schema in (
-      subst (λ s. HasRoomFor s (codes "head")) (sym meta.schema) (head_after_meta schema room.head),
-      subst (λ s. HasRoomFor s (codes "cell")) (sym meta.schema) (cell_after_meta schema room.cell),
+      subst (λ s. HasFreeName s (codes "head")) (sym meta.schema) (head_after_meta schema room.head),
+      subst (λ s. HasFreeName s (codes "cell")) (sym meta.schema) (cell_after_meta schema room.cell),
       subst (λ s. lacks_sequence s ≡ false) (sym meta.schema) (counts_kept schema (meta_table 0) refl room.counts),
       meta.sound,
     )
 
-pub ours_made : (old mid new : State) → HasRoom old.now.schema → IsDatabase old.now → Creates (meta_table 0) old mid → CreatesRows mid new → MakesOurs old new
+pub ours_made : (old mid new : State) → HasFreeNames old.now.schema → IsDatabase old.now → Creates (meta_table 0) old mid → CreatesRows mid new → MakesOurs old new
 ours_made old mid new room was meta rows =
     let schema = old.now.schema in
     let n = next_tree schema in

@@ -14,7 +14,7 @@ use Rattle.sqlite_trees.specs.Tree.{Trees}
 use Rattle.sqlite_trees.proofs.ListLemmas.{all_weaker}
 use Rattle.sqlite_rules.specs.Lists.{Has}
 use Rattle.sqlite_rules.proofs.ListLemmas.{all_has, all_from}
-use Rattle.ov_tables.specs.Tables.{meta_table, line_table, head_table, cell_table, table_of, tree_of, cell_trees, line_trees, HasTable, HasRoomFor, HasLineTables, HasCellTables}
+use Rattle.ov_tables.specs.Tables.{meta_table, line_table, head_table, cell_table, table_of, tree_of, cell_trees, line_trees, HasTable, HasFreeName, HasLineTables, HasCellTables}
 use Rattle.ov_tables.specs.Format.{HasNumber, IsMeta, IsLine, IsHead, IsCell, rows_of}
 use Rattle.ov_tables.specs.Holding.{HoldsLines, HoldsCells, KeepsOthers, is_among}
 use Rattle.ov_tables.specs.Emptying.{Clears, Empties}
@@ -157,11 +157,11 @@ module _ (text : List ℕ) (old a b new : State) (stored : HoldsLines text old.n
   meta_here : HasTable b.now.schema (meta_table m)
   meta_here = subst (λ s. HasTable s (meta_table m)) (sym same) lines.meta
 
-  head_room : HasRoomFor b.now.schema (codes "head")
-  head_room = subst (λ s. HasRoomFor s (codes "head")) (sym same) lines.head
+  head_room : HasFreeName b.now.schema (codes "head")
+  head_room = subst (λ s. HasFreeName s (codes "head")) (sym same) lines.head
 
-  cell_room : HasRoomFor b.now.schema (codes "cell")
-  cell_room = subst (λ s. HasRoomFor s (codes "cell")) (sym same) lines.cell
+  cell_room : HasFreeName b.now.schema (codes "cell")
+  cell_room = subst (λ s. HasFreeName s (codes "cell")) (sym same) lines.cell
 
   meta_gone : b.now.trees m ≡ []
   meta_gone = sym (rows_are b.now (meta_table m) meta_here two.sound) ∙ two.rows

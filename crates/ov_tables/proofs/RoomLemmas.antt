@@ -20,7 +20,7 @@ use Rattle.sqlite_rules.proofs.ListLemmas.{test_from, test_has, has_left, has_ri
 use Rattle.sqlite_catalog.specs.Listing.{IsIndexRow, automatic}
 use Rattle.sqlite_catalog.proofs.LayoutLemmas.{index_owner}
 use Rattle.sqlite_trees.specs.Tree.{Trees}
-use Rattle.ov_tables.specs.Tables.{plain_table, meta_table, head_table, cell_table, no_schema, table_of, points_to, is_apart, is_key_to, key_index, is_allowed, HasRoomFor, HasRoom, HasTable}
+use Rattle.ov_tables.specs.Tables.{plain_table, meta_table, head_table, cell_table, no_schema, table_of, points_to, is_apart, is_key_to, key_index, is_allowed, HasFreeName, HasFreeNames, HasTable}
 use Rattle.sqlite_schema.specs.declared.schema.Column.{Column}
 use Rattle.ov_tables.proofs.TableLemmas.{found_place}
 
@@ -177,7 +177,7 @@ module _ (schema : Schema) (name : List ℕ) (columns : List Column) (key : List
 
   -- ---- the new table
 
-  module _ (room : HasRoomFor schema name) (itself : same_name name name ≡ true) (indexed : same_name (key_index name) new_index.name ≡ true) (owned : AreOwned schema) where
+  module _ (room : HasFreeName schema name) (itself : same_name name name ≡ true) (indexed : same_name (key_index name) new_index.name ≡ true) (owned : AreOwned schema) where
     new_named : table_of after name ≡ Some new
     new_named = found_in _ ∙ ap (λ o. option_or o (find (λ t. same_name t.name name) (new ∷ []))) (none_found _ 0 schema.tables (is_free schema name room.free).table) ∙ rw itself refl
 
@@ -251,7 +251,7 @@ module _ (schema : Schema) (name : List ℕ) (columns : List Column) (key : List
 
   -- ---- room that was there
 
-  pub room_kept : (other : List ℕ) → HasRoomFor schema other → same_name name other ≡ false → same_name new_index.name other ≡ false → HasRoomFor after other
+  pub room_kept : (other : List ℕ) → HasFreeName schema other → same_name name other ≡ false → same_name new_index.name other ≡ false → HasFreeName after other
   room_kept other room table index =
       let free = is_free schema other room.free in
       record {
@@ -297,21 +297,21 @@ module _ (schema : Schema) where
   cell_indexed = refl
 
   -- room for one is kept where another is made
-  pub head_after_meta : HasRoomFor schema (codes "head") → HasRoomFor (created schema (meta_table 0)) (codes "head")
+  pub head_after_meta : HasFreeName schema (codes "head") → HasFreeName (created schema (meta_table 0)) (codes "head")
   unfolding digits same_name
   head_after_meta room = room_kept schema (codes "meta") _ (1 ∷ []) (codes "head") room refl refl
 
-  pub cell_after_meta : HasRoomFor schema (codes "cell") → HasRoomFor (created schema (meta_table 0)) (codes "cell")
+  pub cell_after_meta : HasFreeName schema (codes "cell") → HasFreeName (created schema (meta_table 0)) (codes "cell")
   unfolding digits same_name
   cell_after_meta room = room_kept schema (codes "meta") _ (1 ∷ []) (codes "cell") room refl refl
 
-  pub cell_after_head : HasRoomFor schema (codes "cell") → HasRoomFor (created schema (head_table 0)) (codes "cell")
+  pub cell_after_head : HasFreeName schema (codes "cell") → HasFreeName (created schema (head_table 0)) (codes "cell")
   unfolding digits same_name
   cell_after_head room = room_kept schema (codes "head") _ (1 ∷ 2 ∷ []) (codes "cell") room refl refl
 
-pub room_of_blank : (schema : Schema) → schema ≡ no_schema → HasRoom schema
+pub room_of_blank : (schema : Schema) → schema ≡ no_schema → HasFreeNames schema
 room_of_blank schema blank =
-    subst HasRoom (sym blank) (record { meta = record { free = refl; keys = refl }; head = record { free = refl; keys = refl }; cell = record { free = refl; keys = refl }; counts = refl })
+    subst HasFreeNames (sym blank) (record { meta = record { free = refl; keys = refl }; head = record { free = refl; keys = refl }; cell = record { free = refl; keys = refl }; counts = refl })
 
 -- ---- the rows of the other tables
 

@@ -145,8 +145,8 @@ stored_cells trees =
     cell_lines (map head_of (rows_of_head trees)) (map cell_of (rows_of_cell trees))
 
 -- what the tables hold, in the format that `meta` names
-abbrev pub held : Trees → Stored
-held trees = record {
+abbrev pub stored_in : Trees → Stored
+stored_in trees = record {
   schema = stored_schema (rows_of_meta trees);
   lines = if list_any is_cells_row (rows_of_meta trees)
       then InCells (stored_cells trees) else Whole (stored_lines (rows_of_line trees));

@@ -10,19 +10,19 @@ use Rattle.sqlite.specs.Does.{lacks_sequence}
 use Rattle.sqlite.specs.Effect.{Database, IsDatabase}
 use Rattle.sqlite.specs.State.{State}
 use Rattle.sqlite.specs.Tree.{Trees}
-use Rattle.ov_tables.specs.Tables.{tree_of, with_row_tables, with_ours, head_table, HasRoom, HasRoomFor, HasCellTables}
+use Rattle.ov_tables.specs.Tables.{tree_of, with_row_tables, with_ours, head_table, HasFreeNames, HasFreeName, HasCellTables}
 use Rattle.ov_tables.specs.Format.{rows_of_meta, rows_of_head, rows_of_cell}
 use Rattle.ov_tables.specs.Holding.{HoldsCells, KeepsOthers}
 
 -- while the connection is open, there is room for the tables of stored format 2, and its trees obey its schema
 abbrev pub MayMake : State → Type 0
-MayMake s = IsTrue s.is_open → HasRoom s.now.schema × IsDatabase s.now
+MayMake s = IsTrue s.is_open → HasFreeNames s.now.schema × IsDatabase s.now
 
 -- the same for a table of this name
 abbrev pub MayCreate : List ℕ → State → Type 0
 MayCreate name s =
     IsTrue s.is_open
-    → HasRoomFor s.now.schema name × (lacks_sequence s.now.schema ≡ false) × IsDatabase s.now
+    → HasFreeName s.now.schema name × (lacks_sequence s.now.schema ≡ false) × IsDatabase s.now
 
 -- a table was made after everything that was there, with no rows
 pub record Creates (table : Table) (old new : State) : Type 0 where
@@ -38,7 +38,7 @@ pub record Creates (table : Table) (old new : State) : Type 0 where
 abbrev pub MayCreateRows : State → Type 0
 MayCreateRows s =
     IsTrue s.is_open
-    → HasRoomFor s.now.schema (codes "head") × HasRoomFor s.now.schema (codes "cell")
+    → HasFreeName s.now.schema (codes "head") × HasFreeName s.now.schema (codes "cell")
     × (lacks_sequence s.now.schema ≡ false) × IsDatabase s.now
 
 -- both were made so

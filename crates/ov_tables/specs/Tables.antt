@@ -91,16 +91,16 @@ abbrev pub is_key_to : List ℕ → Reference → Bool
 is_key_to name ref = same_name name ref.parent
 
 -- there is room for a table of this name: no table, index or view has the name, and no foreign key names it
-pub record HasRoomFor (schema : Schema) (name : List ℕ) : Type 0 where
+pub record HasFreeName (schema : Schema) (name : List ℕ) : Type 0 where
   pub free : is_used schema name ≡ false
   pub keys : list_any (λ t. list_any (is_key_to name) t.references) schema.tables ≡ false
 
 -- there is room for the tables of stored format 2. If rows are counted, the table of the counts exists, so that none is made
 -- besides (SQLite: AUTOINCREMENT, sqlite_sequence)
-pub record HasRoom (schema : Schema) : Type 0 where
-  pub meta : HasRoomFor schema (codes "meta")
-  pub head : HasRoomFor schema (codes "head")
-  pub cell : HasRoomFor schema (codes "cell")
+pub record HasFreeNames (schema : Schema) : Type 0 where
+  pub meta : HasFreeName schema (codes "meta")
+  pub head : HasFreeName schema (codes "head")
+  pub cell : HasFreeName schema (codes "cell")
   pub counts : lacks_sequence schema ≡ false
 
 -- the table of this name, as SQLite looks for it
@@ -149,8 +149,8 @@ IsAlone schema table key =
 pub record HasLineTables (schema : Schema) : Type 0 where
   pub meta : HasTable schema (meta_table (tree_of schema (codes "meta")))
   pub line : HasTable schema (line_table (tree_of schema (codes "line")))
-  pub head : HasRoomFor schema (codes "head")
-  pub cell : HasRoomFor schema (codes "cell")
+  pub head : HasFreeName schema (codes "head")
+  pub cell : HasFreeName schema (codes "cell")
   pub counts : lacks_sequence schema ≡ false
 
 -- the database has the three tables of stored format 2. It may have other tables, indexes and views

@@ -4,7 +4,7 @@ ghost use Rattle.std.specs.Prelude.{◌≡◌, ◌↔◌, IsTrue, is_some};
 ghost use Rattle.std.specs.List.{list_any};
 ghost use Rattle.sqlite.specs.Rows.{sequence};
 ghost use Rattle.sqlite.specs.Does.{lacks_sequence};
-ghost use Rattle.ov_tables.specs.Tables.{HasRoom, HasRoomFor, is_key_to};
+ghost use Rattle.ov_tables.specs.Tables.{HasFreeNames, HasFreeName, is_key_to};
 
 use sqlite_catalog::layout::is_used;
 use sqlite_schema::names::same_name;
@@ -61,14 +61,14 @@ pub(crate) fn lacks_sequence(schema: &Schema) -> bool
 
 /// Whether there is room for a table of this name.
 pub(crate) fn has_room_for(schema: &Schema, name: &[u8]) -> bool
-    ensures { IsTrue result ↔ HasRoomFor schema.now name.now }
+    ensures { IsTrue result ↔ HasFreeName schema.now name.now }
 {
     !is_used(schema, name) && !have_key_to(schema.tables.as_slice(), name)
 }
 
 /// Whether the tables of stored format 2 can be made after everything that is there.
 pub fn has_room(schema: &Schema) -> bool
-    ensures { IsTrue result ↔ HasRoom schema.now }
+    ensures { IsTrue result ↔ HasFreeNames schema.now }
 {
     has_room_for(schema, b"meta")
         && has_room_for(schema, b"head")

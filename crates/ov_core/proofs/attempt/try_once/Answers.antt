@@ -1,7 +1,7 @@
 use Rattle.std.proofs.Common.{ap, sym, subst, ◌∙◌}
 use Rattle.ov_outbox.specs.Frames.{WaitingFrames}
 use Rattle.ov_outbox.specs.Outbox.{Outbox}
-use Rattle.ov_outbox.specs.Waits.{HasRoom}
+use Rattle.ov_outbox.specs.Waits.{HasPlaces}
 use Rattle.ov_specs.specs.locks.Queues.{Queues, owns}
 use Rattle.ov_specs.specs.operations.Transaction.{TransactionOutcome, transaction}
 use Rattle.ov_core.specs.States.{sessions_of}
@@ -20,7 +20,7 @@ pub from_parts-requires-clause-room : goal.from_parts-requires-clause-room
 from_parts-requires-clause-room g c =
     let to : Queues → TransactionOutcome = λ q. transaction c.args.db.now.schema c.args.db.now.committed (owns q c.args.asked.session) c.args.asked.txn.now.draws c.args.asked.age c.args.asked.txn.now.operations in
     tried_keeps (to c.into_parts-queues.result.1.0) c.args.db.now c.new-replying.result c.new-replying.ensures.prepared c.attempt-tried.result c.attempt-tried.new.db c.attempt-tried.new.ready c.attempt-tried.ensures.tried
-    c.into_parts-queues.result.1.0 c.send_prepared-queues.result (subst (λ (w : WaitingFrames). HasRoom w c.into_parts-queues.result.1.0) (sym c.new-replying.ensures.queues) c.into_parts-queues.ensures.room) c.send_prepared-queues.ensures.places
+    c.into_parts-queues.result.1.0 c.send_prepared-queues.result (subst (λ (w : WaitingFrames). HasPlaces w c.into_parts-queues.result.1.0) (sym c.new-replying.ensures.queues) c.into_parts-queues.ensures.room) c.send_prepared-queues.ensures.places
 
 pub returns-in-Answer-clause-tried : goal.returns-in-Answer-clause-tried
 returns-in-Answer-clause-tried g c =

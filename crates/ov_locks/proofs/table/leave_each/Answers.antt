@@ -2,7 +2,7 @@ use Rattle.std.proofs.Common.{◌++◌, List, map, length, String, string_bytes,
 use Rattle.std.proofs.lemmas.List.{append-nil}
 use Rattle.std.specs.Prelude.{option_to_list}
 use Rattle.ov_specs.specs.locks.Queues.{unlock, next_owner, unlock_all, freed_all}
-use Rattle.ov_locks.specs.Freeing.{told, told_all}
+use Rattle.ov_locks.specs.Freeing.{owner_notified, owners_notified}
 use Rattle.ov_locks.proofs.Tables.{Unlocking, IsLeft, left-next}
 use Rattle.ov_locks.proofs.table.leave_each.Goals as goal
 
@@ -23,7 +23,7 @@ loop-name-preserved c =
     let left = subst (λ (it : List (String Global)). IsLeft session first (record { names = map string_bytes it; queues = queues; freeing = now })) c.in-Some.ensures.steps c.loop-name.invariant in
     left-next session first (string_bytes c.in-Some.name) (map string_bytes c.next.new.self) queues c.leave_one.new.queues now c.leave_one.new.freed left
     (c.leave_one.ensures.queues ∙ ap (λ n. unlock n session queues) c.as_str.ensures.value)
-    (c.leave_one.ensures.freed ∙ ap (λ n. now.0 ++ option_to_list (told n (next_owner n session queues))) c.as_str.ensures.value)
+    (c.leave_one.ensures.freed ∙ ap (λ n. now.0 ++ option_to_list (owner_notified n (next_owner n session queues))) c.as_str.ensures.value)
     c.leave_one.ensures.places
 
 pub returns-clause-queues : goal.returns-clause-queues
@@ -41,7 +41,7 @@ returns-clause-freed c =
     subst (λ (it : List (String Global)). IsLeft c.args.session first (record { names = map string_bytes it; queues = c.loop-name.queues; freeing = c.loop-name.freed }))
     c.in-None.ensures.steps.0 c.loop-name.invariant in
     sym (append-nil c.loop-name.freed.0) ∙ left.1
-    ∙ ap (λ (ks : List (String Global)). c.args.freed.now.0 ++ told_all (freed_all c.args.session (map string_bytes ks) c.args.queues.now)) c.into_iter-name-iterator.ensures.into_iter_gives.0
+    ∙ ap (λ (ks : List (String Global)). c.args.freed.now.0 ++ owners_notified (freed_all c.args.session (map string_bytes ks) c.args.queues.now)) c.into_iter-name-iterator.ensures.into_iter_gives.0
 
 pub returns-clause-places : goal.returns-clause-places
 returns-clause-places c =

@@ -1,6 +1,6 @@
 use Rattle.std.proofs.Common.{[], cond, subst, sym, ap, ◌∙◌}
 use Rattle.ov_specs.specs.locks.Queues.{Queues, with_queue, unlock, next_owner}
-use Rattle.ov_locks.specs.Freeing.{told}
+use Rattle.ov_locks.specs.Freeing.{owner_notified}
 use Rattle.ov_locks.specs.Queued.{queues_of, AllAreTold}
 use Rattle.ov_locks.specs.declared.queues.Queues.TheInside.{Inside}
 use Rattle.ov_locks.proofs.Named.{Entries, told-set, told-found}
@@ -27,12 +27,12 @@ returns-clause-told c =
     let name = c.args.name.now in
     let session = c.args.session in
     let es = c.self.inside.of.entries in
-    let here = ap (λ (qs : Queues). told name (next_owner name session qs)) c.self.view_is in
+    let here = ap (λ (qs : Queues). owner_notified name (next_owner name session qs)) c.self.view_is in
     elim c.match-get_mut.branch [
       | in-Some w ↦
           let q = w.in-Some.queue.now in
           (λ i. (w.result-is i).0) ∙ (w.leave_queue.ensures.told name (told-found name q es c.self.invariant w.in-Some.ensures.value)).1
-          ∙ ap (told name) (sym (next-found name session es q w.in-Some.ensures.value)) ∙ here
+          ∙ ap (owner_notified name) (sym (next-found name session es q w.in-Some.ensures.value)) ∙ here
       | in-None w ↦ (λ i. (w.result-is i).0) ∙ nobody-next name session es w.in-None.ensures.value ∙ here
     ]
 

@@ -1,7 +1,7 @@
 use Rattle.std.proofs.Common.{◌++◌, length, sym, ap, ◌∙◌, arith}
 use Rattle.std.proofs.lemmas.List.{append-nil}
 use Rattle.ov_specs.specs.locks.Queues.{unlock_all, freed_all, leave, freed}
-use Rattle.ov_locks.specs.Freeing.{told_all}
+use Rattle.ov_locks.specs.Freeing.{owners_notified}
 use Rattle.ov_locks.proofs.Tables.{TableValue, leaves-table}
 use Rattle.ov_locks.proofs.table.LockTable.leave_all.Goals as goal
 
@@ -21,8 +21,8 @@ returns-in-Some c =
     let queues = c.self.inside.queues in
     let names = c.in-Some.ensures.names ∙ c.self.invariant.1 session in
     let left = c.leave_each.ensures.queues ∙ ap (λ ns. unlock_all session ns queues) names in
-    let told = c.leave_each.ensures.freed ∙ ap (λ ns. c.self.inside.freed.0 ++ told_all (freed_all session ns queues)) names in
-    (λ i. (left i, told i)) ∙ ap (λ (t : TableValue). (leave session t.0, t.1 ++ told_all (freed session t.0))) c.self.view_is
+    let told = c.leave_each.ensures.freed ∙ ap (λ ns. c.self.inside.freed.0 ++ owners_notified (freed_all session ns queues)) names in
+    (λ i. (left i, told i)) ∙ ap (λ (t : TableValue). (leave session t.0, t.1 ++ owners_notified (freed session t.0))) c.self.view_is
 
 pub returns-in_default : goal.returns-in_default
 returns-in_default c =
@@ -30,5 +30,5 @@ returns-in_default c =
     let queues = c.self.inside.queues in
     let names = c.in_default.ensures.names ∙ c.self.invariant.1 session in
     let left = ap (λ ns. unlock_all session ns queues) names in
-    let told = sym (append-nil c.self.inside.freed.0) ∙ ap (λ ns. c.self.inside.freed.0 ++ told_all (freed_all session ns queues)) names in
-    (λ i. (left i, told i)) ∙ ap (λ (t : TableValue). (leave session t.0, t.1 ++ told_all (freed session t.0))) c.self.view_is
+    let told = sym (append-nil c.self.inside.freed.0) ∙ ap (λ ns. c.self.inside.freed.0 ++ owners_notified (freed_all session ns queues)) names in
+    (λ i. (left i, told i)) ∙ ap (λ (t : TableValue). (leave session t.0, t.1 ++ owners_notified (freed session t.0))) c.self.view_is

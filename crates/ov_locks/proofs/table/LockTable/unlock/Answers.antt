@@ -1,7 +1,7 @@
 use Rattle.std.proofs.Common.{◌≡◌, true, false, refl, sym, ap, ◌∙◌, arith}
 use Rattle.std.specs.Prelude.{Ok}
 use Rattle.ov_specs.specs.locks.Queues.{has_requested, next_owner}
-use Rattle.ov_locks.specs.Freeing.{told}
+use Rattle.ov_locks.specs.Freeing.{owner_notified}
 use Rattle.ov_locks.proofs.Tables.{Freeing, TableValue, has-is, unlocks-table}
 use Rattle.ov_locks.proofs.table.LockTable.unlock.Goals as goal
 
@@ -27,4 +27,4 @@ returns-clause-answer c =
     let session = c.args.session in
     let has : has_requested session name c.args.self.now.0 ≡ true =
     sym (has-is name session c.self.inside.queues c.self.inside.held c.self.invariant.0 c.self.invariant.1 ∙ ap (λ (t : TableValue). has_requested session name t.0) c.self.view_is) ∙ sym c.has.ensures ∙ c.if-not-has.false in
-    rw has (ap (λ o. Ok o) (c.unlock.ensures.told ∙ ap (λ (t : TableValue). told name (next_owner name session t.0)) c.self.view_is))
+    rw has (ap (λ o. Ok o) (c.unlock.ensures.told ∙ ap (λ (t : TableValue). owner_notified name (next_owner name session t.0)) c.self.view_is))

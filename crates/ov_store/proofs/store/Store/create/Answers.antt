@@ -2,7 +2,7 @@ use Rattle.std.proofs.Common.{◌≡◌, ◌≤◌, ℕ, inl, inr, refl, sym, ap
 use Rattle.sqlite.specs.Held.{state}
 use Rattle.ov_specs.specs.rows.Cells.{Stored, format_of}
 use Rattle.ov_keeper.specs.Keeping.{IsCommitFault}
-use Rattle.ov_tables.specs.Tables.{HasRoom}
+use Rattle.ov_tables.specs.Tables.{HasFreeNames}
 use Rattle.ov_tables.specs.Making.{MayMake}
 use Rattle.ov_store.proofs.FoundLemmas.{new_found, new_beside}
 use Rattle.ov_store.proofs.FormatLemmas.{text_stored}
@@ -12,35 +12,35 @@ use Rattle.ov_store.proofs.store.Store.create.Goals as goal
 pub returns-in-Ok-clause-ok : goal.returns-in-Ok-clause-ok
 returns-in-Ok-clause-ok g c clean contents found =
     let old = state g.S.Store c.args.connection in
-    let room : HasRoom c.args.connection.schema = subst HasRoom c.schema.ensures.value (c.has_room.ensures.0 c.if-not-has_room.false) in
+    let room : HasFreeNames c.args.connection.schema = subst HasFreeNames c.schema.ensures.value (c.has_room.ensures.0 c.if-not-has_room.false) in
     let may : MayMake old = λ up. (room, (c.schema.ensures.live up).0) in
     new_found g.S.Store g.met.S.Store.settled g.met.S.Store.stays c.args.schema old c.make_new.new.conn (c.in-Ok.ensures.ok clean may) contents found
 
 pub returns-in-Ok-clause-of_format : goal.returns-in-Ok-clause-of_format
 returns-in-Ok-clause-of_format g c clean contents found =
     let old = state g.S.Store c.args.connection in
-    let room : HasRoom c.args.connection.schema = subst HasRoom c.schema.ensures.value (c.has_room.ensures.0 c.if-not-has_room.false) in
+    let room : HasFreeNames c.args.connection.schema = subst HasFreeNames c.schema.ensures.value (c.has_room.ensures.0 c.if-not-has_room.false) in
     let may : MayMake old = λ up. (room, (c.schema.ensures.live up).0) in
     ap (λ (s : Stored). format_of s.lines) (new_found g.S.Store g.met.S.Store.settled g.met.S.Store.stays c.args.schema old c.make_new.new.conn (c.in-Ok.ensures.ok clean may) contents found)
 
 pub returns-in-Ok-clause-beside : goal.returns-in-Ok-clause-beside
 returns-in-Ok-clause-beside g c clean =
     let old = state g.S.Store c.args.connection in
-    let room : HasRoom c.args.connection.schema = subst HasRoom c.schema.ensures.value (c.has_room.ensures.0 c.if-not-has_room.false) in
+    let room : HasFreeNames c.args.connection.schema = subst HasFreeNames c.schema.ensures.value (c.has_room.ensures.0 c.if-not-has_room.false) in
     let may : MayMake old = λ up. (room, (c.schema.ensures.live up).0) in
     (c.in-Ok.ensures.ok clean may).schema
 
 pub returns-in-Ok-clause-others : goal.returns-in-Ok-clause-others
 returns-in-Ok-clause-others g c clean =
     let old = state g.S.Store c.args.connection in
-    let room : HasRoom c.args.connection.schema = subst HasRoom c.schema.ensures.value (c.has_room.ensures.0 c.if-not-has_room.false) in
+    let room : HasFreeNames c.args.connection.schema = subst HasFreeNames c.schema.ensures.value (c.has_room.ensures.0 c.if-not-has_room.false) in
     let may : MayMake old = λ up. (room, (c.schema.ensures.live up).0) in
     new_beside g.S.Store g.met.S.Store.settled g.met.S.Store.stays c.args.schema c.args.connection c.make_new.new.conn (c.in-Ok.ensures.ok clean may)
 
 pub returns-clause-left : goal.returns-clause-left
 returns-clause-left g c =
     let old = state g.S.Store c.args.connection in
-    let room : HasRoom c.args.connection.schema = subst HasRoom c.schema.ensures.value (c.has_room.ensures.0 c.if-not-has_room.false) in
+    let room : HasFreeNames c.args.connection.schema = subst HasFreeNames c.schema.ensures.value (c.has_room.ensures.0 c.if-not-has_room.false) in
     let may : MayMake old = λ up. (room, (c.schema.ensures.live up).0) in
     c.in-Err.ensures.left may
 
@@ -48,11 +48,11 @@ pub returns-in-Ok-clause-honest : goal.returns-in-Ok-clause-honest
 returns-in-Ok-clause-honest g c clean = c.make_new.ensures.honest clean
 
 pub returns-in-Ok-clause-room : goal.returns-in-Ok-clause-room
-returns-in-Ok-clause-room g c = subst HasRoom c.schema.ensures.value (c.has_room.ensures.0 c.if-not-has_room.false)
+returns-in-Ok-clause-room g c = subst HasFreeNames c.schema.ensures.value (c.has_room.ensures.0 c.if-not-has_room.false)
 
 pub invariant_of-result : goal.invariant_of-result
 invariant_of-result g c =
-    let room : HasRoom c.args.connection.schema = subst HasRoom c.schema.ensures.value (c.has_room.ensures.0 c.if-not-has_room.false) in
+    let room : HasFreeNames c.args.connection.schema = subst HasFreeNames c.schema.ensures.value (c.has_room.ensures.0 c.if-not-has_room.false) in
     let may : MayMake (state g.S.Store c.args.connection) = λ up. (room, (c.schema.ensures.live up).0) in
     let new = c.make_new.new.conn in
     record {
@@ -70,7 +70,7 @@ returns-clause-honest g c = tt
 
 pub returns-clause-ours : goal.returns-clause-ours
 returns-clause-ours g c =
-    let room : HasRoom c.args.connection.schema = subst HasRoom c.schema.ensures.value (c.has_room.ensures.0 c.if-not-has_room.false) in
+    let room : HasFreeNames c.args.connection.schema = subst HasFreeNames c.schema.ensures.value (c.has_room.ensures.0 c.if-not-has_room.false) in
     (λ is. absurd (subst IsCommitFault is c.in-Err.ensures.kinds), λ none. absurd (none room))
 
 pub returns-clause-format : goal.returns-clause-format
@@ -81,7 +81,7 @@ returns-clause-same g c clean = c.in-Err.ensures.same clean
 
 pub returns-then-not-has_room-clause-ours : goal.returns-then-not-has_room-clause-ours
 returns-then-not-has_room-clause-ours g c =
-    (λ is room. let yes : IsTrue c.has_room.result = c.has_room.ensures.1 (subst HasRoom (sym c.schema.ensures.value) room) in let no : c.has_room.result ≡ false = c.if-not-has_room.true in absurd cc, λ none. refl)
+    (λ is room. let yes : IsTrue c.has_room.result = c.has_room.ensures.1 (subst HasFreeNames (sym c.schema.ensures.value) room) in let no : c.has_room.result ≡ false = c.if-not-has_room.true in absurd cc, λ none. refl)
 
 pub returns-then-not-has_room-clause-same : goal.returns-then-not-has_room-clause-same
 returns-then-not-has_room-clause-same g c clean = record { was_open = λ up. up; now = λ up. refl }
