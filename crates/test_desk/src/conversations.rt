@@ -2,7 +2,7 @@
 
 use crate::clients::{ALL, Client, client_of};
 use crate::desks::{converse, conversed};
-use std::alloc::Global;
+use std::alloc::{AllocError, Global};
 use std::rt::Clock;
 use std::sync::Wait;
 use std::test::Fail;
@@ -103,7 +103,7 @@ fn writers_take_byte_by_byte(rt: HostRuntime) -> Result<(), Fail> {
 }
 
 /// `count` texts with a number in the middle, counted from 0.
-fn numbered(alloc: Global, count: u64, before: &str, after: &str) -> Result<String, Fail> {
+fn numbered(alloc: Global, count: u64, before: &str, after: &str) -> Result<String, AllocError> {
     let mut text = String::new(alloc);
     for number in 0..count {
         text.push_str(format!(in alloc; "{before}{number}{after}")?.as_str())?;
@@ -112,20 +112,20 @@ fn numbered(alloc: Global, count: u64, before: &str, after: &str) -> Result<Stri
 }
 
 /// `count` calls of `echo`, with ids from 0 on.
-fn echoes(alloc: Global, count: u64) -> Result<String, Fail> {
+fn echoes(alloc: Global, count: u64) -> Result<String, AllocError> {
     let after = ",\"method\":\"echo\",\"params\":[]}";
     numbered(alloc, count, "{\"id\":", after)
 }
 
 /// What two clients are written if the first is overrun after `count` replies.
-fn overrun(alloc: Global, count: u64) -> Result<String, Fail> {
+fn overrun(alloc: Global, count: u64) -> Result<String, AllocError> {
     let replies = numbered(alloc, count, "{\"error\":null,\"id\":", ",\"result\":[]}")?;
     let beside = r#"{"error":null,"id":0,"result":["Net"]}"#;
-    Ok(format!(in alloc; "1 Overrun {replies}\n2 InputEnded {beside}\n")?)
+    format!(in alloc; "1 Overrun {replies}\n2 InputEnded {beside}\n")
 }
 
 /// Whether the two clients were written this.
-fn is_overrun(alloc: Global, told: &str, count: u64) -> Result<bool, Fail> {
+fn is_overrun(alloc: Global, told: &str, count: u64) -> Result<bool, AllocError> {
     let wanted = overrun(alloc, count)?;
     Ok(told == wanted.as_str())
 }

@@ -3,7 +3,7 @@ use crate::holding::HoldingGate;
 use ov_desk::{Served, Unserved, serve_links};
 use ov_ends::Clock;
 use ov_lanes::{Desk, Link, ServeFault};
-use std::alloc::Global;
+use std::alloc::{AllocError, Global};
 use std::collections::VecDeque;
 use std::rt::Clock as SystemClock;
 use std::sync::Wait;
@@ -61,15 +61,15 @@ fn fault_line(
     fault: ServeFault,
     links: usize,
     entries: usize,
-) -> Result<String, Fail> {
-    Ok(format!(in alloc; "{fault:?} {links} {entries}")?)
+) -> Result<String, AllocError> {
+    format!(in alloc; "{fault:?} {links} {entries}")
 }
 
 /// Why clients are not served, and the numbers of links and of history entries then.
 pub(crate) fn refusal<R: SystemClock>(
     alloc: Global,
     unserved: ClientsUnserved<'_, '_, '_, R>,
-) -> Result<String, Fail> {
+) -> Result<String, AllocError> {
     let Unserved { fault, desk, links } = unserved;
     let entries = desk.core().history().len();
     fault_line(alloc, fault, links.len(), entries)
@@ -82,7 +82,7 @@ fn lines_at<'g, 'r, 's, R: Threads + Wait + SystemClock + Sync>(
     desk: Desk<NetKeeper, Counter>,
     links: VecDeque<Link<ClientReader<'g, 'r, 's, R>, ClientWriter>>,
     gate: &HoldingGate<'r, R>,
-) -> Result<String, Fail> {
+) -> Result<String, AllocError> {
     match serve(rt, alloc, desk, links, gate) {
         Ok(served) => lines_of(alloc, gate, served.ends),
         Err(unserved) => refusal(alloc, unserved),
@@ -96,7 +96,7 @@ pub(crate) fn converse_at<R: Threads + Wait + SystemClock + Sync>(
     desk: Desk<NetKeeper, Counter>,
     clients: &[Client<'_>],
     gate: &HoldingGate<'_, R>,
-) -> Result<String, Fail> {
+) -> Result<String, AllocError> {
     let links = links_of(alloc, gate, clients)?;
     lines_at(rt, alloc, desk, links, gate)
 }
@@ -109,7 +109,7 @@ fn converse_after<R: Threads + Wait + SystemClock + Sync>(
     gate: &HoldingGate<'_, R>,
 ) -> Result<String, Fail> {
     let core = net_core(alloc, Faults::NONE)?;
-    converse_at(rt, alloc, Desk::new(alloc, core), clients, gate)
+    Ok(converse_at(rt, alloc, Desk::new(alloc, core), clients, gate)?)
 }
 
 /// The outcome of clients at a new desk whose workers are held up as `holds` says.

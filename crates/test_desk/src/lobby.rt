@@ -7,7 +7,7 @@ use ov_keeper::Keeper;
 use ov_lanes::{Desk, Link};
 use ov_requests::Draws;
 use ov_workers::FreeGate;
-use std::alloc::Global;
+use std::alloc::{AllocError, Global};
 use std::io::{Read, Write};
 use std::rt::Clock;
 use std::sync::atomic::{AtomicBool, AtomicU64, Ordering};
@@ -47,7 +47,7 @@ struct Board<'r, R: Wait + Clock> {
 
 impl<'r, R: Wait + Clock> Board<'r, R> {
     /// A board on which nothing has been seen yet.
-    fn new(rt: &'r R, alloc: Global) -> Result<Board<'r, R>, Fail> {
+    fn new(rt: &'r R, alloc: Global) -> Result<Board<'r, R>, AllocError> {
         let mut clients = Vec::new(alloc);
         for _ in 0..CLIENTS {
             clients.push(Seen {
@@ -101,9 +101,9 @@ impl<'r, R: Wait + Clock> Board<'r, R> {
     }
 
     /// The line of a client: how many of its ends are closed, whether it was read from, and what it was written.
-    fn line(&self, alloc: Global, client: usize) -> Result<String, Fail> {
+    fn line(&self, alloc: Global, client: usize) -> Result<String, AllocError> {
         let Some(seen) = self.clients.get(client) else {
-            return Err("no such client")?;
+            return String::from_str(alloc, "no such client\n");
         };
         let closed = seen.closed.load(Ordering::SeqCst);
         let is_read = seen.is_read.load(Ordering::SeqCst);
@@ -113,10 +113,10 @@ impl<'r, R: Wait + Clock> Board<'r, R> {
 }
 
 /// A line with how many ends of a client are closed, whether it was read from, and what it was written.
-fn line_of(alloc: Global, closed: u64, is_read: bool, text: &[u8]) -> Result<String, Fail> {
-    let text = std::str::from_utf8(text)?;
+fn line_of(alloc: Global, closed: u64, is_read: bool, text: &[u8]) -> Result<String, AllocError> {
+    let text = str::from_utf8(text).unwrap_or("no text");
     let word = if is_read { "read" } else { "unread" };
-    Ok(format!(in alloc; "{closed} {word} {text}\n")?)
+    format!(in alloc; "{closed} {word} {text}\n")
 }
 
 /// A client's reader, which follows a script: a line is sent at once, and a line `after FACT` before it says what to wait for
@@ -253,17 +253,17 @@ impl<R: Wait + Clock> Drop for LobbyListener<'_, '_, '_, R> {
     }
 }
 
-/// Serves clients in a lobby, and returns how many entries the history then has. None if the lobby is refused.
+/// Serves clients in a lobby, and returns how many entries the history then has. The largest number if the lobby is refused.
 fn serve_clients<R: Threads + Wait + Clock + Sync, K: Keeper + Drop, D: Draws + Drop>(
     rt: &R,
     alloc: Global,
     desk: Desk<K, D>,
     listener: LobbyListener<'_, '_, '_, R>,
-) -> Option<usize> {
+) -> usize {
     let clock = &mut RisingClock { moment: 0 };
     match serve_lobby(rt, alloc, desk, listener, &FreeGate, clock) {
-        Ok(desk) => Some(desk.core().history().len()),
-        Err(_refused) => None,
+        Ok(desk) => desk.core().history().len(),
+        Err(_refused) => usize::MAX,
     }
 }
 
@@ -273,7 +273,7 @@ fn told_of<R: Wait + Clock>(
     board: &Board<'_, R>,
     entries: usize,
     clients: usize,
-) -> Result<String, Fail> {
+) -> Result<String, AllocError> {
     let mut told = format!(in alloc; "{entries}\n")?;
     for client in 0..clients {
         told.push_str(board.line(alloc, client)?.as_str())?;
@@ -298,7 +298,7 @@ fn converse_on<R: Threads + Wait + Clock + Sync>(
         clients,
     };
     let entries = serve_clients(rt, alloc, desk, listener);
-    told_of(alloc, board, entries.ok_or("no lobby")?, clients.len())
+    Ok(told_of(alloc, board, entries, clients.len())?)
 }
 
 /// The same with a new board.
@@ -368,7 +368,12 @@ fn a_client_goes_on_beside_one_that_is_damaged(rt: HostRuntime) -> Result<(), Fa
 const LISTED: &str = "2 read {\"error\":null,\"id\":0,\"result\":[\"Net\"]}\n";
 
 /// The outcome of `count` clients that ask for the list, one of which may be turned away.
-fn listed(alloc: Global, entries: u64, count: usize, away: Option<usize>) -> Result<String, Fail> {
+fn listed(
+    alloc: Global,
+    entries: u64,
+    count: usize,
+    away: Option<usize>,
+) -> Result<String, AllocError> {
     let mut told = format!(in alloc; "{entries}\n")?;
     for client in 0..count {
         told.push_str(if away == Some(client) {
@@ -393,7 +398,7 @@ fn are_listed<R: Threads + Wait + Clock + Sync>(
 }
 
 /// The facts that clients wait for: the first client comes at once, and each other after the one before has gone.
-fn facts_in_turn(alloc: Global) -> Result<Vec<String>, Fail> {
+fn facts_in_turn(alloc: Global) -> Result<Vec<String>, AllocError> {
     let mut facts = Vec::new(alloc);
     facts.push(String::new(alloc))?;
     for client in 1..CLIENTS {
@@ -407,7 +412,7 @@ fn clients_after<'a>(
     alloc: Global,
     facts: &'a Vec<String>,
     says: &'a str,
-) -> Result<Vec<(&'a str, &'a str)>, Fail> {
+) -> Result<Vec<Coming<'a>>, AllocError> {
     let mut clients = Vec::new(alloc);
     for fact in facts {
         clients.push((fact.as_str(), says))?;
@@ -436,21 +441,32 @@ const HOLDING: &str = r#"{"id":0,"method":"list_dbs","params":[]}
 after 64 closed
 "#;
 
-/// 64 clients that hold their places, one more, and one that comes once the first has gone.
-fn one_too_many(alloc: Global) -> Result<Vec<(&'static str, &'static str)>, Fail> {
+/// 64 clients that hold their places, one more, and one that comes once the first has gone. `others` is what all but the first
+/// of the 64 say.
+fn one_too_many(alloc: Global, others: &'static str) -> Result<Vec<Coming<'static>>, AllocError> {
     let mut clients = Vec::new(alloc);
-    for _ in 0..64 {
-        clients.push(("", HOLDING))?;
+    clients.push(("", HOLDING))?;
+    for _ in 0..63 {
+        clients.push(("", others))?;
     }
     clients.push(("", LIST))?;
     clients.push(("0 closed", LIST))?;
     Ok(clients)
 }
 
+/// Fails unless all of them are listed but the sixty-fifth.
+fn are_listed_but_one<R: Threads + Wait + Clock + Sync>(
+    rt: &R,
+    alloc: Global,
+    others: &'static str,
+) -> Result<(), Fail> {
+    let clients = one_too_many(alloc, others)?;
+    are_listed(rt, alloc, clients.as_slice(), 195, Some(64))
+}
+
 #[test]
 fn the_sixty_fifth_is_turned_away(rt: HostRuntime) -> Result<(), Fail> {
-    let clients = one_too_many(rt.alloc())?;
-    are_listed(&rt, rt.alloc(), clients.as_slice(), 195, Some(64))
+    are_listed_but_one(&rt, rt.alloc(), HOLDING)
 }
 
 /// Holds its place until the last client has been served, which came once the first had gone.
@@ -458,21 +474,8 @@ const STAYING: &str = r#"{"id":0,"method":"list_dbs","params":[]}
 after 65 told
 "#;
 
-/// One client that holds its place until another has been turned away, 63 that stay, the one that is turned away, and one that
-/// comes once the first has gone.
-fn one_leaves(alloc: Global) -> Result<Vec<(&'static str, &'static str)>, Fail> {
-    let mut clients = Vec::new(alloc);
-    clients.push(("", HOLDING))?;
-    for _ in 0..63 {
-        clients.push(("", STAYING))?;
-    }
-    clients.push(("", LIST))?;
-    clients.push(("0 closed", LIST))?;
-    Ok(clients)
-}
-
+/// The first client holds its place until another has been turned away, and the other 63 stay.
 #[test]
 fn the_place_of_one_that_left_serves_another(rt: HostRuntime) -> Result<(), Fail> {
-    let clients = one_leaves(rt.alloc())?;
-    are_listed(&rt, rt.alloc(), clients.as_slice(), 195, Some(64))
+    are_listed_but_one(&rt, rt.alloc(), STAYING)
 }

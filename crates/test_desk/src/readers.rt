@@ -2,20 +2,20 @@ ghost use Rattle.std.specs.Prelude.{◌≡◌, []};
 ghost use Rattle.rtrb.specs.Ring.{sent};
 
 use crate::gates::CountingGate;
+use crate::told::{begin, next, noted, tells_bytes};
 use ov_ends::Watched;
-use ov_order::{Brought, Noter, Order, Taken, inbound_ring};
+use ov_order::{Brought, Noter, Order, inbound_ring};
 use ov_rpc::Received;
 use ov_workers::{Common, HandRing, Inlet, Point, ReadCause, ReadEnd, read_worker, start_reader};
-use rtrb::Consumer;
-use std::alloc::Global;
+use rtrb::{Consumer, Producer};
+use std::alloc::{AllocError, Global};
 use std::io::{ErrorKind, Read};
 use std::marker::Brand;
 use std::sync::Wait;
-use std::sync::ledger::{Blank, Ledger};
+use std::sync::ledger::{Blank, Ledger, Share};
 use std::test::Fail;
 use std::thread::{Scope, Threads};
 use std::{io, thread};
-use test_basics::is_text;
 
 /// Two messages, with white space before the second.
 pub(crate) const STREAM: &[u8] =
@@ -51,26 +51,25 @@ pub(crate) fn reader_of(rest: &[u8], most: usize) -> PieceReader<'_> {
     }
 }
 
+/// What a ring to the desk has: messages, and last the end mark with the cause.
+pub(crate) type Item = Brought<Received, ReadCause>;
+
 /// Adds the text of a message.
-fn push_message(lines: &mut Vec<u8>, received: Received) -> Result<(), Fail> {
+fn push_message(lines: &mut Vec<u8>, received: Received) -> Result<(), AllocError> {
     let (_incoming, text) = received.into_parts();
     lines.extend_from_slice(text.as_slice())?;
     Ok(())
 }
 
 /// Adds the cause of an end mark.
-fn push_cause(alloc: Global, lines: &mut Vec<u8>, cause: ReadCause) -> Result<(), Fail> {
+fn push_cause(alloc: Global, lines: &mut Vec<u8>, cause: ReadCause) -> Result<(), AllocError> {
     let word = format!(in alloc; "{cause:?}")?;
     lines.extend_from_slice(word.as_bytes())?;
     Ok(())
 }
 
 /// Adds the line of an item: the text of a message, or the cause of an end mark.
-fn push_item(
-    alloc: Global,
-    lines: &mut Vec<u8>,
-    item: Brought<Received, ReadCause>,
-) -> Result<(), Fail> {
+fn push_item(alloc: Global, lines: &mut Vec<u8>, item: Item) -> Result<(), AllocError> {
     match item {
         Brought::Message(received) => push_message(lines, received)?,
         Brought::End(cause) => push_cause(alloc, lines, cause)?,
@@ -80,7 +79,7 @@ fn push_item(
 }
 
 /// The lines of the items in the ring.
-fn lines_of(alloc: Global, ring: Consumer<Brought<Received, ReadCause>>) -> Result<Vec<u8>, Fail> {
+fn lines_of(alloc: Global, ring: Consumer<Item>) -> Result<Vec<u8>, AllocError> {
     let mut ring = ring;
     let mut lines = Vec::new(alloc);
     for _ in 0..64 {
@@ -92,20 +91,41 @@ fn lines_of(alloc: Global, ring: Consumer<Brought<Received, ReadCause>>) -> Resu
     Ok(lines)
 }
 
-/// The lines of the items in the ring, then how many notes were made, the first of them, how often the gate was passed, and
-/// the cause.
-fn told_of(
+/// How many notes a worker made, the first of them, and its cause.
+type Noted = (u64, Option<u64>, ReadCause);
+
+/// The last line: the same, with how often the gate was passed before the cause.
+fn noted_text(alloc: Global, noted: Noted, passed: u64) -> Result<String, AllocError> {
+    let (noted, first, cause) = noted;
+    format!(in alloc; "{noted} {first:?} {passed} {cause:?}")
+}
+
+/// The lines of the items in the ring, and a last one.
+fn with_last(
     alloc: Global,
-    ring: Consumer<Brought<Received, ReadCause>>,
-    noted: u64,
-    first: Option<u64>,
-    passed: u64,
-    cause: ReadCause,
-) -> Result<Vec<u8>, Fail> {
+    ring: Consumer<Item>,
+    last: Result<String, AllocError>,
+) -> Result<Vec<u8>, AllocError> {
+    let last = last?;
     let mut lines = lines_of(alloc, ring)?;
-    let told = format!(in alloc; "{noted} {first:?} {passed} {cause:?}")?;
-    lines.extend_from_slice(told.as_bytes())?;
+    lines.extend_from_slice(last.as_bytes())?;
     Ok(lines)
+}
+
+/// Has a worker bring what a reader gives into a ring.
+fn bring<R: Wait, L: Ledger>(
+    common: Common<'_, R, L, CountingGate>,
+    reader: PieceReader<'_>,
+    ring: Producer<Item>,
+    share: Share<L>,
+) -> Noted
+    requires { (share.parts ≡ L.parts) × (share.parts ≡ 1) × (share.amount ≡ 0) × (sent ring ≡ []) }
+{
+    let inlet = Inlet::new(ring, Noter::new(7, share));
+    let ReadEnd { inlet, cause, .. } = read_worker(common, Watched::new(reader), inlet);
+    let Inlet { noter, .. } = inlet;
+    let count = noted(common.rt, common.order, noter.into_share());
+    (count, next(common.rt, common.order), cause)
 }
 
 /// What a worker brings from a reader, then how many notes it made, the first of them, how often it passed the gate, and its
@@ -115,13 +135,13 @@ fn read_by<R: Wait, L: Ledger>(
     alloc: Global,
     blank: Blank,
     reader: PieceReader<'_>,
-) -> Result<Vec<u8>, Fail>
+) -> Result<Vec<u8>, AllocError>
     requires name { blank.name ≡ L.name }
     requires parts { (blank.parts ≡ L.parts) × (blank.parts ≡ 1) }
 {
     let (ledger, share) = blank.open::<L>();
-    let (ring, desk) = inbound_ring(alloc)?;
     let order = Order::new(alloc, ledger)?;
+    let (ring, desk) = inbound_ring(alloc)?;
     let gate = CountingGate::new(Point::BeforePush);
     let common = Common {
         rt,
@@ -129,23 +149,8 @@ fn read_by<R: Wait, L: Ledger>(
         order: &order,
         gate: &gate,
     };
-    let inlet = Inlet::new(ring, Noter::new(7, share));
-    let ReadEnd { inlet, cause, .. } = read_worker(common, Watched::new(reader), inlet);
-    let Inlet { noter, .. } = inlet;
-    let mut share = noter.into_share();
-    let noted = order.lock(rt).noted(&mut share);
-    let first = order.lock(rt).next(&mut Taken::new());
-    told_of(alloc, desk, noted, first, gate.passed(), cause)
-}
-
-/// The same with a ledger of its own.
-fn read<R: Wait>(rt: &R, alloc: Global, reader: PieceReader<'_>) -> Result<Vec<u8>, Fail> {
-    read_by::<R, Brand>(rt, alloc, Blank::new(1), reader)
-}
-
-/// Fails unless these bytes are this text.
-pub(crate) fn are_text(alloc: Global, bytes: &[u8], wanted: &str) -> Result<(), Fail> {
-    is_text(alloc, str::from_utf8(bytes)?, wanted)
+    let noted = bring(common, reader, ring, share);
+    with_last(alloc, desk, noted_text(alloc, noted, gate.passed()))
 }
 
 /// Fails unless a worker brings this from a reader.
@@ -155,8 +160,8 @@ fn brings<R: Wait>(
     reader: PieceReader<'_>,
     wanted: &str,
 ) -> Result<(), Fail> {
-    let lines = read(rt, alloc, reader)?;
-    are_text(alloc, lines.as_slice(), wanted)
+    let lines = read_by::<R, Brand>(rt, alloc, Blank::new(1), reader);
+    tells_bytes(alloc, lines, wanted)
 }
 
 const TWO_MESSAGES: &str = r#"{"id":0,"method":"echo","params":[]}
@@ -209,8 +214,7 @@ fn dismiss_in<'s, E, R: Threads + Wait + Sync, L: Ledger + Send + Sync + 's>(
     let Some(reading) = start_reader(common, scope, true, hand, inlet) else {
         return false;
     };
-    common.order.lock(common.rt).begin(false);
-    common.order.wake();
+    begin(common.rt, common.order, false);
     reading.dismiss(common.rt);
     true
 }
@@ -232,19 +236,29 @@ fn dismiss<'a, R: Threads + Wait + Sync, L: Ledger + Send + Sync>(
     )
 }
 
-/// Whether a worker was dismissed, what it brought, its first note, and how often it passed the gate.
+/// Whether a worker was dismissed, its first note, and how often it passed the gate.
+fn dismissed_text(
+    alloc: Global,
+    is_dismissed: bool,
+    first: Option<u64>,
+    passed: u64,
+) -> Result<String, AllocError> {
+    format!(in alloc; "{is_dismissed} {first:?} {passed}")
+}
+
+/// What a worker brought that was dismissed, and the same.
 fn dismissed<R: Threads + Wait + Sync, L: Ledger + Send + Sync>(
     rt: &R,
     alloc: Global,
     blank: Blank,
-) -> Result<Vec<u8>, Fail>
+) -> Result<Vec<u8>, AllocError>
     requires name { blank.name ≡ L.name }
     requires parts { (blank.parts ≡ L.parts) × (blank.parts ≡ 1) }
 {
     let (ledger, share) = blank.open::<L>();
+    let order = Order::new(alloc, ledger)?;
     let (ring, desk) = inbound_ring(alloc)?;
     let hand = HandRing::new(alloc)?;
-    let order = Order::new(alloc, ledger)?;
     let gate = CountingGate::new(Point::BeforePush);
     let common = Common {
         rt,
@@ -253,26 +267,12 @@ fn dismissed<R: Threads + Wait + Sync, L: Ledger + Send + Sync>(
         gate: &gate,
     };
     let is_dismissed = dismiss(common, hand, Inlet::new(ring, Noter::new(7, share)));
-    let first = order.lock(rt).next(&mut Taken::new());
-    dismissed_text(alloc, is_dismissed, desk, first, gate.passed())
-}
-
-/// The same as a text.
-fn dismissed_text(
-    alloc: Global,
-    is_dismissed: bool,
-    ring: Consumer<Brought<Received, ReadCause>>,
-    first: Option<u64>,
-    passed: u64,
-) -> Result<Vec<u8>, Fail> {
-    let mut lines = lines_of(alloc, ring)?;
-    let told = format!(in alloc; "{is_dismissed} {first:?} {passed}")?;
-    lines.extend_from_slice(told.as_bytes())?;
-    Ok(lines)
+    let told = dismissed_text(alloc, is_dismissed, next(rt, &order), gate.passed());
+    with_last(alloc, desk, told)
 }
 
 #[test]
 fn a_reader_that_may_not_begin_brings_nothing(rt: HostRuntime) -> Result<(), Fail> {
-    let lines = dismissed::<HostRuntime, Brand>(&rt, rt.alloc(), Blank::new(1))?;
-    are_text(rt.alloc(), lines.as_slice(), "true None 0")
+    let lines = dismissed::<HostRuntime, Brand>(&rt, rt.alloc(), Blank::new(1));
+    tells_bytes(rt.alloc(), lines, "true None 0")
 }

@@ -1,22 +1,22 @@
-ghost use Rattle.std.specs.Prelude.{◌≡◌, []};
+ghost use Rattle.std.specs.Prelude.{◌≡◌, [], IfOk};
 ghost use Rattle.rtrb.specs.Ring.{sent, received};
 
 use crate::gates::CountingGate;
-use crate::readers::{PieceReader, STREAM, reader_of};
+use crate::readers::{Item, PieceReader, STREAM, reader_of};
+use crate::told::{begin, next, tells};
 use ov_base::Bytes;
 use ov_ends::Watched;
-use ov_order::{Bell, Noter, Order, Sent, Taken, inbound_ring, outbound_ring};
+use ov_order::{Bell, Noter, Order, Sent, inbound_ring, outbound_ring};
 use ov_workers::{Common, Hands, Inlet, Point, ReadCause, ReadLeft, WriteLeft, start_workers};
 use rtrb::{Consumer, Producer};
-use std::alloc::Global;
+use std::alloc::{AllocError, Global};
 use std::io::Write;
 use std::marker::Brand;
 use std::sync::Wait;
-use std::sync::ledger::{Blank, Ledger};
+use std::sync::ledger::{Blank, Ledger, Share};
 use std::test::Fail;
 use std::thread::{Scope, Threads};
 use std::{io, thread};
-use test_basics::is_text;
 
 /// A writer that keeps what it is given, and rings a bell at each flush.
 #[derive(Drop)]
@@ -68,8 +68,19 @@ fn send<R: Wait>(rt: &R, alloc: Global, bell: &Bell, flushed: &Bell, out: Produc
     bell.ring(rt);
 }
 
+/// The reader's cause and what was written. None if the workers could not be started, or if the writer was not kept.
+type Served = Option<(ReadCause, Vec<u8>)>;
+
+/// The same, from what is left of the two ends of a link.
+fn served_of<R: Wait, L: Ledger>(
+    read: ReadLeft<SessionReader, L>,
+    wrote: WriteLeft<SessionWriter<'_, R>>,
+) -> Served {
+    let taken = wrote.writer?.into_inner().taken;
+    Some((read.cause, taken))
+}
+
 /// Does what a desk does for a session: hands the workers the two ends of its link, sends three frames and joins the workers.
-/// Returns the reader's cause and what was written.
 fn serve_in<'s, E, R: Threads + Wait + Sync, L: Ledger + Send + Sync + 's>(
     common: Common<'s, R, L, CountingGate>,
     scope: &Scope<'s, E>,
@@ -77,11 +88,11 @@ fn serve_in<'s, E, R: Threads + Wait + Sync, L: Ledger + Send + Sync + 's>(
     flushed: &'s Bell,
     ends: Ends<'s, R, L>,
     out: Producer<Sent>,
-) -> Result<(ReadCause, Vec<u8>), Fail>
+) -> Served
     requires reader { sent ends.inlet.ring ≡ [] }
     requires writer { received ends.to_writer ≡ [] }
 {
-    let hands = Hands::new(common.alloc)?;
+    let hands = Hands::new(common.alloc).ok()?;
     let Ends {
         reader,
         inlet,
@@ -89,20 +100,14 @@ fn serve_in<'s, E, R: Threads + Wait + Sync, L: Ledger + Send + Sync + 's>(
         to_writer,
     } = ends;
     let Some(workers) = start_workers(common, scope, bell, true, inlet, to_writer, hands) else {
-        return Err("no threads for the workers")?;
+        return None;
     };
     let mut workers = workers;
     workers.hand(reader, writer);
-    common.order.lock(common.rt).begin(true);
-    common.order.wake();
+    begin(common.rt, common.order, true);
     send(common.rt, common.alloc, bell, flushed, out);
     let (read, wrote) = workers.join(common.rt);
-    let ReadLeft { cause, .. } = read;
-    let WriteLeft { writer, .. } = wrote;
-    let Some(writer) = writer else {
-        return Err("a writer that is not kept")?;
-    };
-    Ok((cause, writer.into_inner().taken))
+    served_of(read, wrote)
 }
 
 /// The same, in a scope of its own.
@@ -112,51 +117,43 @@ fn in_scope<'a, R: Threads + Wait + Sync, L: Ledger + Send + Sync>(
     flushed: &'a Bell,
     ends: Ends<'a, R, L>,
     out: Producer<Sent>,
-) -> Result<(ReadCause, Vec<u8>), Fail>
+) -> Served
     requires reader { sent ends.inlet.ring ≡ [] }
     requires writer { received ends.to_writer ≡ [] }
 {
     thread::scope(
         thread::scope_env(),
         common.rt,
-        move |scope| -> Result<(ReadCause, Vec<u8>), Fail>
+        move |scope| -> Served
             requires reader { sent ends.inlet.ring ≡ [] }
             requires writer { received ends.to_writer ≡ [] }
         { serve_in(common, scope, bell, flushed, ends, out) },
     )
 }
 
-/// The reader's cause and what was written, then the first serial that was noted, how often the writer passed the gate, and
-/// whether its thread has said that it is over.
-fn told_of(
-    alloc: Global,
-    served: Result<(ReadCause, Vec<u8>), Fail>,
-    first: Option<u64>,
-    passed: u64,
-    is_over: bool,
-) -> Result<String, Fail> {
-    let (cause, written) = served?;
-    let written = String::from_utf8(written)?;
-    Ok(format!(in alloc; "{cause:?} {written} {first:?} {passed} {is_over}")?)
+/// The desk's ends of a session's rings.
+#[derive(Drop)]
+struct Desk {
+    inbound: Consumer<Item>,
+    out: Producer<Sent>,
 }
 
-/// The same for a session with a ledger and an order of its own.
-fn serve<R: Threads + Wait + Sync, L: Ledger + Send + Sync>(
-    rt: &R,
+/// What the workers of a session get whose writer rings a bell, and the desk's ends of its rings.
+fn ends_of<'a, R: Wait, L: Ledger>(
+    rt: &'a R,
     alloc: Global,
-    blank: Blank,
-) -> Result<String, Fail>
-    requires name { blank.name ≡ L.name }
-    requires parts { (blank.parts ≡ L.parts) × (blank.parts ≡ 1) }
+    flushed: &'a Bell,
+    share: Share<L>,
+) -> Result<(Ends<'a, R, L>, Desk), AllocError>
+    requires { (share.parts ≡ 1) × (share.amount ≡ 0) }
+    ensures reader { IfOk result (λ r. sent r.0.inlet.ring ≡ []) }
+    ensures writer { IfOk result (λ r. received r.0.to_writer ≡ []) }
 {
-    let (ledger, share) = blank.open::<L>();
-    let (to_desk, _desk) = inbound_ring(alloc)?;
+    let (to_desk, inbound) = inbound_ring(alloc)?;
     let (out, to_writer) = outbound_ring(alloc)?;
-    let order = Order::new(alloc, ledger)?;
-    let flushed = Bell::new();
     let writer = RingingWriter {
         rt,
-        flushed: &flushed,
+        flushed,
         taken: Vec::new(alloc),
     };
     let ends = Ends {
@@ -165,6 +162,42 @@ fn serve<R: Threads + Wait + Sync, L: Ledger + Send + Sync>(
         writer: Watched::new(writer),
         to_writer,
     };
+    Ok((ends, Desk { inbound, out }))
+}
+
+/// The reader's cause and what was written, then the first serial that was noted, how often the writer passed the gate, and
+/// whether its thread has said that it is over.
+fn told_of(
+    alloc: Global,
+    served: Served,
+    first: Option<u64>,
+    passed: u64,
+    is_over: bool,
+) -> Result<String, AllocError> {
+    let Some((cause, written)) = served else {
+        return Ok(String::new(alloc));
+    };
+    let written = str::from_utf8(written.as_slice()).unwrap_or("");
+    format!(in alloc; "{cause:?} {written} {first:?} {passed} {is_over}")
+}
+
+/// The same for a session with a ledger and an order of its own.
+fn serve<R: Threads + Wait + Sync, L: Ledger + Send + Sync>(
+    rt: &R,
+    alloc: Global,
+    blank: Blank,
+) -> Result<String, AllocError>
+    requires name { blank.name ≡ L.name }
+    requires parts { (blank.parts ≡ L.parts) × (blank.parts ≡ 1) }
+{
+    let (ledger, share) = blank.open::<L>();
+    let order = Order::new(alloc, ledger)?;
+    let flushed = Bell::new();
+    let (ends, desk) = ends_of(rt, alloc, &flushed, share)?;
+    let Desk {
+        inbound: _inbound,
+        out,
+    } = desk;
     let gate = CountingGate::new(Point::BeforeWrite);
     let bell = Bell::new();
     let common = Common {
@@ -174,13 +207,17 @@ fn serve<R: Threads + Wait + Sync, L: Ledger + Send + Sync>(
         gate: &gate,
     };
     let served = in_scope(common, &bell, &flushed, ends, out);
-    let first = order.lock(rt).next(&mut Taken::new());
-    told_of(alloc, served, first, gate.passed(), bell.is_over())
+    told_of(
+        alloc,
+        served,
+        next(rt, &order),
+        gate.passed(),
+        bell.is_over(),
+    )
 }
 
 #[test]
 fn both_workers_of_a_session_run_in_threads(rt: HostRuntime) -> Result<(), Fail> {
-    let told = serve::<HostRuntime, Brand>(&rt, rt.alloc(), Blank::new(1))?;
-    let wanted = "InputEnded [1][2][3] Some(7) 3 true";
-    is_text(rt.alloc(), told.as_str(), wanted)
+    let told = serve::<HostRuntime, Brand>(&rt, rt.alloc(), Blank::new(1));
+    tells(rt.alloc(), told, "InputEnded [1][2][3] Some(7) 3 true")
 }

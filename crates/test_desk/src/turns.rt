@@ -1,13 +1,13 @@
 //! A desk that takes one item at a time: from which ring, and what it then puts into the rings of all sessions.
 
 use ov_base::Bytes;
-use ov_core::Session;
+use ov_core::{Cause, Session};
 use ov_lanes::{Desk, Lane};
 use ov_order::{Brought, Sent, inbound_ring, outbound_ring};
 use ov_rpc::Received;
 use ov_workers::ReadCause;
 use rtrb::{Consumer, Producer};
-use std::alloc::Global;
+use std::alloc::{AllocError, Global};
 use std::test::Fail;
 use test_basics::{Counter, Faults, NetKeeper, Scripted, agrees};
 use test_support::net_core;
@@ -20,41 +20,43 @@ struct Side {
 }
 
 /// The two sides of a session's new rings: the desk's and the workers'.
-fn sides_of(alloc: Global, session: Session) -> Result<(Lane, Side), Fail> {
+fn sides_of(alloc: Global, session: Session) -> Result<(Lane, Side), AllocError> {
     let (to_desk, inbound) = inbound_ring(alloc)?;
     let (outbound, to_writer) = outbound_ring(alloc)?;
     let lane = Lane::new(session, inbound, outbound);
     Ok((lane, Side { to_desk, to_writer }))
 }
 
-/// The side of the session of a serial, which counts from 1.
-fn side_of<'a>(sides: &'a mut Vec<Side>, serial: &str) -> Option<&'a mut Side> {
-    let at = serial.parse::<usize>().ok()?.checked_sub(1)?;
-    sides.get_mut(at)
+/// Puts a message into a ring to the desk, and returns nothing, or why not.
+fn bring(alloc: Global, side: &mut Side, text: &str) -> Result<&'static str, AllocError> {
+    let bytes = Bytes::from_slice(alloc, text.as_bytes())?;
+    Ok(match Received::read(alloc, bytes) {
+        Ok(received) => push(side, received),
+        Err(_) => "no message",
+    })
 }
 
-/// Puts a message into a ring to the desk.
-fn bring(alloc: Global, side: &mut Side, text: &str) -> Result<(), Fail> {
-    let received = Received::read(alloc, Bytes::from_slice(alloc, text.as_bytes())?)?;
-    let Ok(()) = side.to_desk.push(Brought::Message(received)) else {
-        return Err("a full ring")?;
-    };
-    Ok(())
+/// The same for a message that was read.
+fn push(side: &mut Side, received: Received) -> &'static str {
+    match side.to_desk.push(Brought::Message(received)) {
+        Ok(()) => "",
+        Err(_) => "a full ring",
+    }
 }
 
 /// What was taken out of a ring to a writer: the number of frames, the last of them, and `end` after the end mark. Empty if
 /// nothing was there.
-fn taken_text(alloc: Global, frames: u64, last: Vec<u8>, ended: bool) -> Result<String, Fail> {
+fn taken_text(alloc: Global, frames: u64, last: &[u8], ended: bool) -> Result<String, AllocError> {
     if frames == 0 && !ended {
         return Ok(String::new(alloc));
     }
-    let last = String::from_utf8(last)?;
+    let last = str::from_utf8(last).unwrap_or("no text");
     let mark = if ended { " end" } else { "" };
-    Ok(format!(in alloc; "{frames} {last}{mark}")?)
+    format!(in alloc; "{frames} {last}{mark}")
 }
 
 /// Takes all out of a ring to a writer.
-fn take_all(alloc: Global, side: &mut Side) -> Result<String, Fail> {
+fn take_all(alloc: Global, side: &mut Side) -> Result<String, AllocError> {
     let mut frames: u64 = 0;
     let mut last = Vec::new(alloc);
     let mut ended = false;
@@ -68,7 +70,7 @@ fn take_all(alloc: Global, side: &mut Side) -> Result<String, Fail> {
             Err(_) => break,
         }
     }
-    taken_text(alloc, frames, last, ended)
+    taken_text(alloc, frames, last.as_slice(), ended)
 }
 
 /// A desk, and the workers' sides of the sessions that it serves.
@@ -78,70 +80,88 @@ struct Bench {
     sides: Vec<Side>,
 }
 
-/// Opens a session, gives it a place, and returns its serial.
-fn open(alloc: Global, bench: &mut Bench) -> Result<u64, Fail> {
-    let session = bench.desk.core.open_session()?;
-    let (lane, side) = sides_of(alloc, session)?;
-    bench.desk.lanes.push(Some(lane))?;
-    bench.sides.push(side)?;
-    Ok(session.serial)
+/// The side of the session of a serial, which counts from 1.
+fn side_of(sides: &mut Vec<Side>, serial: u64) -> Option<&mut Side> {
+    let at = (serial as usize).checked_sub(1)?;
+    sides.get_mut(at)
 }
 
-/// A turn of the desk for the session of a serial.
-fn turn(alloc: Global, bench: &mut Bench, serial: &str) -> Result<bool, Fail> {
-    let serial = serial.parse::<u64>()?;
-    Ok(bench.desk.turn(alloc, 0, serial))
-}
+impl Bench {
+    /// Gives a session a place.
+    fn place(&mut self, alloc: Global, session: Session) -> Result<(), AllocError> {
+        let (lane, side) = sides_of(alloc, session)?;
+        self.desk.lanes.push(Some(lane))?;
+        self.sides.push(side)?;
+        Ok(())
+    }
 
-/// Brings an echo and has it taken, `count` times. Returns how many turns took one.
-fn fill(alloc: Global, bench: &mut Bench, serial: &str, count: &str) -> Result<u64, Fail> {
-    let mut turns: u64 = 0;
-    for _ in 0..count.parse::<u64>()? {
-        let side = side_of(&mut bench.sides, serial).ok_or("no session")?;
-        bring(alloc, side, "{\"id\":9,\"method\":\"echo\",\"params\":[]}")?;
-        if turn(alloc, bench, serial)? {
-            turns = turns.saturating_add(1);
+    /// Opens a session, gives it a place, and returns its serial.
+    fn open(&mut self, alloc: Global) -> Result<String, AllocError> {
+        let Ok(session) = self.desk.core.open_session() else {
+            return String::from_str(alloc, "not opened");
+        };
+        self.place(alloc, session)?;
+        format!(in alloc; "{}", session.serial)
+    }
+
+    /// Brings an echo and has it taken, `count` times. Returns how many turns took one.
+    fn fill(&mut self, alloc: Global, serial: u64, count: u64) -> Result<u64, AllocError> {
+        let mut turns: u64 = 0;
+        for _ in 0..count {
+            if let Some(side) = side_of(&mut self.sides, serial) {
+                bring(alloc, side, "{\"id\":9,\"method\":\"echo\",\"params\":[]}")?;
+            }
+            turns = turns.saturating_add(u64::from(self.desk.turn(alloc, 0, serial)));
+        }
+        Ok(turns)
+    }
+
+    /// Why the session of a serial was closed, if it was. None if there is no such session.
+    fn cause(&self, serial: u64) -> Option<Option<Cause>> {
+        match self.desk.lanes.get((serial as usize).checked_sub(1)?) {
+            Some(Some(lane)) => Some(lane.cause),
+            _ => None,
         }
     }
-    Ok(turns)
-}
 
-/// Why the session of a serial was closed.
-fn cause_text(alloc: Global, bench: &Bench, serial: &str) -> Result<String, Fail> {
-    let at = serial.parse::<usize>()?.saturating_sub(1);
-    match bench.desk.lanes.get(at) {
-        Some(Some(lane)) => Ok(format!(in alloc; "{:?}", lane.cause)?),
-        _ => Err("no session")?,
-    }
-}
-
-/// The answer to a command that names a session. `text` is what follows.
-fn answer_of(
-    alloc: Global,
-    bench: &mut Bench,
-    command: &str,
-    serial: &str,
-    text: &str,
-) -> Result<String, Fail> {
-    match command {
-        "turns" => Ok(format!(in alloc; "{}", turn(alloc, bench, serial)?)?),
-        "fills" => Ok(format!(in alloc; "{}", fill(alloc, bench, serial, text)?)?),
-        "cause" => cause_text(alloc, bench, serial),
-        _ => {
-            let side = side_of(&mut bench.sides, serial).ok_or("no session")?;
-            side_answer(alloc, side, command, text)
+    /// The answer to a command that names a session. `text` is what follows.
+    fn answer_of(
+        &mut self,
+        alloc: Global,
+        command: &str,
+        serial: u64,
+        text: &str,
+    ) -> Result<String, AllocError> {
+        match command {
+            "turns" => format!(in alloc; "{}", self.desk.turn(alloc, 0, serial)),
+            "fills" => {
+                let turns = self.fill(alloc, serial, text.parse::<u64>().unwrap_or(0))?;
+                format!(in alloc; "{turns}")
+            }
+            "cause" => match self.cause(serial) {
+                Some(cause) => format!(in alloc; "{cause:?}"),
+                None => String::from_str(alloc, "no session"),
+            },
+            _ => match side_of(&mut self.sides, serial) {
+                Some(side) => side_answer(alloc, side, command, text),
+                None => String::from_str(alloc, "no session"),
+            },
         }
     }
 }
 
 /// The answer to a command that its workers' side alone answers.
-fn side_answer(alloc: Global, side: &mut Side, command: &str, text: &str) -> Result<String, Fail> {
+fn side_answer(
+    alloc: Global,
+    side: &mut Side,
+    command: &str,
+    text: &str,
+) -> Result<String, AllocError> {
     match command {
-        "brings" => bring(alloc, side, text)?,
-        "takes" => return take_all(alloc, side),
-        _ => return Err("no command")?,
+        "brings" => String::from_str(alloc, bring(alloc, side, text)?),
+        "takes" => take_all(alloc, side),
+        _ => String::from_str(alloc, "no command"),
     }
-    Ok(String::new(alloc))
 }
 
 impl Scripted for Bench {
@@ -150,10 +170,13 @@ impl Scripted for Bench {
     /// `cause SERIAL`, why the session was closed.
     fn answer(&mut self, alloc: Global, command: &str) -> Result<String, Fail> {
         let Some((word, rest)) = command.split_once(" ") else {
-            return Ok(format!(in alloc; "{}", open(alloc, self)?)?);
+            return Ok(self.open(alloc)?);
         };
         let (serial, text) = rest.split_once(" ").unwrap_or((rest, ""));
-        answer_of(alloc, self, word, serial, text)
+        match serial.parse::<u64>() {
+            Ok(serial) => Ok(self.answer_of(alloc, word, serial, text)?),
+            Err(_) => Err(Fail::new("no serial")),
+        }
     }
 }
 

@@ -2,13 +2,13 @@ ghost use Rattle.std.specs.Prelude.{◌≡◌, []};
 ghost use Rattle.rtrb.specs.Ring.{received};
 
 use crate::gates::CountingGate;
-use crate::readers::are_text;
+use crate::told::{begin, tells, tells_bytes};
 use ov_base::Bytes;
 use ov_ends::Watched;
 use ov_order::{Bell, Order, Sent, outbound_ring};
 use ov_workers::{Common, HandRing, Point, WriteEnd, start_writer, write_worker};
 use rtrb::{Consumer, Producer};
-use std::alloc::Global;
+use std::alloc::{AllocError, Global};
 use std::io::{ErrorKind, Write};
 use std::marker::Brand;
 use std::sync::Wait;
@@ -16,7 +16,6 @@ use std::sync::ledger::{Blank, Ledger};
 use std::test::Fail;
 use std::thread::{Scope, Threads};
 use std::{io, thread};
-use test_basics::is_text;
 
 /// A writer that takes at most `most` bytes per call. After `left` bytes it takes none, or fails.
 #[derive(Drop)]
@@ -56,34 +55,54 @@ fn writer_of(alloc: Global, left: usize, fails: bool) -> ShortWriter {
     }
 }
 
-/// Pushes two frames and the end mark into the ring.
-fn send(alloc: Global, ring: &mut Producer<Sent>) -> Result<(), Fail> {
+/// Pushes two frames and the end mark into the ring. Fails if there is no memory for a frame, or no room in the ring.
+fn send(alloc: Global, ring: &mut Producer<Sent>) -> Result<(), AllocError> {
     for frame in [b"[12]".as_slice(), b"[345]".as_slice()] {
         let frame = Bytes::from_slice(alloc, frame)?;
         let Ok(()) = ring.push(Sent::Frame(frame)) else {
-            return Err("a full ring")?;
+            return Err(AllocError);
         };
     }
     let Ok(()) = ring.push(Sent::End) else {
-        return Err("a full ring")?;
+        return Err(AllocError);
     };
     Ok(())
 }
 
-/// What was written, then whether the worker failed, whether its ring is empty, how often it passed the gate, and how often
-/// it flushed.
+/// What a worker did: whether it failed, whether its ring is empty, and how often it flushed.
+type Ended = (bool, bool, u64);
+
+/// What was written, and what a worker did, with how often it passed the gate before its flushes.
 fn told_of(
     alloc: Global,
     taken: Vec<u8>,
-    ends: (bool, bool),
+    ended: Ended,
     passed: u64,
-    flushes: u64,
-) -> Result<Vec<u8>, Fail> {
-    let mut lines = taken;
-    let (failed, is_empty) = ends;
+) -> Result<Vec<u8>, AllocError> {
+    let (failed, is_empty, flushes) = ended;
     let told = format!(in alloc; " {failed} {is_empty} {passed} {flushes}")?;
+    let mut lines = taken;
     lines.extend_from_slice(told.as_bytes())?;
     Ok(lines)
+}
+
+/// Has a worker write what is in its ring to such a writer. Returns what was written, and what it did.
+fn write<R: Wait, L: Ledger>(
+    common: Common<'_, R, L, CountingGate>,
+    bell: &Bell,
+    writer: ShortWriter,
+    ring: Consumer<Sent>,
+) -> (Vec<u8>, Ended)
+    requires { received ring ≡ [] }
+{
+    let WriteEnd {
+        writer,
+        ring,
+        failed,
+    } = write_worker(common, bell, 7, Watched::new(writer), ring);
+    let mut ring = ring;
+    let ShortWriter { taken, flushes, .. } = writer.into_inner();
+    (taken, (failed, ring.pop().is_err(), flushes))
 }
 
 /// What a worker writes of two frames to such a writer.
@@ -93,15 +112,16 @@ fn written_by<R: Wait, L: Ledger>(
     blank: Blank,
     left: usize,
     fails: bool,
-) -> Result<Vec<u8>, Fail>
+) -> Result<Vec<u8>, AllocError>
     requires name { blank.name ≡ L.name }
     requires parts { (blank.parts ≡ L.parts) × (blank.parts ≡ 1) }
 {
     let (ledger, _share) = blank.open::<L>();
+    let order = Order::new(alloc, ledger)?;
     let (mut desk, ring) = outbound_ring(alloc)?;
     send(alloc, &mut desk)?;
-    let order = Order::new(alloc, ledger)?;
     let bell = Bell::new();
+    bell.ring(rt);
     let gate = CountingGate::new(Point::BeforeWrite);
     let common = Common {
         rt,
@@ -109,23 +129,8 @@ fn written_by<R: Wait, L: Ledger>(
         order: &order,
         gate: &gate,
     };
-    let writer = Watched::new(writer_of(alloc, left, fails));
-    bell.ring(rt);
-    let WriteEnd {
-        writer,
-        ring,
-        failed,
-    } = write_worker(common, &bell, 7, writer, ring);
-    let mut ring = ring;
-    let ends = (failed, ring.pop().is_err());
-    let writer = writer.into_inner();
-    let flushes = writer.flushes;
-    told_of(alloc, writer.taken, ends, gate.passed(), flushes)
-}
-
-/// The same with a ledger of its own.
-fn written<R: Wait>(rt: &R, alloc: Global, left: usize, fails: bool) -> Result<Vec<u8>, Fail> {
-    written_by::<R, Brand>(rt, alloc, Blank::new(1), left, fails)
+    let (taken, ended) = write(common, &bell, writer_of(alloc, left, fails), ring);
+    told_of(alloc, taken, ended, gate.passed())
 }
 
 /// Fails unless a worker writes this.
@@ -136,8 +141,8 @@ fn writes<R: Wait>(
     fails: bool,
     wanted: &str,
 ) -> Result<(), Fail> {
-    let lines = written(rt, alloc, left, fails)?;
-    are_text(alloc, lines.as_slice(), wanted)
+    let lines = written_by::<R, Brand>(rt, alloc, Blank::new(1), left, fails);
+    tells_bytes(alloc, lines, wanted)
 }
 
 #[test]
@@ -167,8 +172,7 @@ fn dismiss_in<'s, E, R: Threads + Wait + Sync, L: Ledger + Send + Sync + 's>(
     let Some(writing) = start_writer(common, scope, bell, true, 7, hand, ring) else {
         return false;
     };
-    common.order.lock(common.rt).begin(false);
-    common.order.wake();
+    begin(common.rt, common.order, false);
     writing.dismiss(common.rt);
     true
 }
@@ -193,20 +197,31 @@ fn dismiss<'a, R: Threads + Wait + Sync, L: Ledger + Send + Sync>(
 
 /// Whether a worker was dismissed and has said that it is over, how many of two frames and the end mark it left in its ring,
 /// and how often it passed the gate.
+fn dismissed_text(
+    alloc: Global,
+    is_dismissed: bool,
+    is_over: bool,
+    left: usize,
+    passed: u64,
+) -> Result<String, AllocError> {
+    format!(in alloc; "{is_dismissed} {is_over} {left} {passed}")
+}
+
+/// The same for a new ring.
 fn dismissed<R: Threads + Wait + Sync, L: Ledger + Send + Sync>(
     rt: &R,
     alloc: Global,
     blank: Blank,
-) -> Result<String, Fail>
+) -> Result<String, AllocError>
     requires name { blank.name ≡ L.name }
     requires parts { (blank.parts ≡ L.parts) × (blank.parts ≡ 1) }
 {
     let (ledger, _share) = blank.open::<L>();
+    let order = Order::new(alloc, ledger)?;
+    let hand = HandRing::new(alloc)?;
     let (mut desk, ring) = outbound_ring(alloc)?;
     let room = desk.slots();
     send(alloc, &mut desk)?;
-    let hand = HandRing::new(alloc)?;
-    let order = Order::new(alloc, ledger)?;
     let bell = Bell::new();
     let gate = CountingGate::new(Point::BeforeWrite);
     let common = Common {
@@ -220,19 +235,8 @@ fn dismissed<R: Threads + Wait + Sync, L: Ledger + Send + Sync>(
     dismissed_text(alloc, is_dismissed, bell.is_over(), left, gate.passed())
 }
 
-/// The same as a text.
-fn dismissed_text(
-    alloc: Global,
-    is_dismissed: bool,
-    is_over: bool,
-    left: usize,
-    passed: u64,
-) -> Result<String, Fail> {
-    Ok(format!(in alloc; "{is_dismissed} {is_over} {left} {passed}")?)
-}
-
 #[test]
 fn a_writer_that_may_not_begin_takes_nothing(rt: HostRuntime) -> Result<(), Fail> {
-    let told = dismissed::<HostRuntime, Brand>(&rt, rt.alloc(), Blank::new(1))?;
-    is_text(rt.alloc(), told.as_str(), "true true 3 0")
+    let told = dismissed::<HostRuntime, Brand>(&rt, rt.alloc(), Blank::new(1));
+    tells(rt.alloc(), told, "true true 3 0")
 }

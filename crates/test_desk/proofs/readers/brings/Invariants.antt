@@ -1,4 +1,4 @@
-use Rattle.test_desk.proofs.readers.read.Given as goal
+use Rattle.test_desk.proofs.readers.brings.Given as goal
 
 abbrev pub ghosts-read_by : goal.ghosts-read_by
 ghosts-read_by g a = record { name = a.blank.name; parts = a.blank.parts }
