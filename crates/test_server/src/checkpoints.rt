@@ -2,7 +2,7 @@
 
 use crate::crashes::inserts;
 use crate::stops::{Before, Case, grows, stops};
-use std::alloc::Global;
+use std::alloc::{AllocError, Global};
 use std::test::Fail;
 use test_basics::{NET, holds};
 
@@ -11,7 +11,7 @@ const COUNT_UP: &str =
     r#"{"id":2,"method":"transact","params":["Net",{"op":"mutate","table":"Switch","where":[],"mutations":[["load","+=",1]]}]}"#;
 
 /// This number of transactions that count up.
-fn count_ups(alloc: Global, count: u64) -> Result<String, Fail> {
+fn count_ups(alloc: Global, count: u64) -> Result<String, AllocError> {
     let mut messages = String::new(alloc);
     for _ in 0..count {
         messages.push_str(COUNT_UP)?;
@@ -21,10 +21,10 @@ fn count_ups(alloc: Global, count: u64) -> Result<String, Fail> {
 }
 
 /// A switch, and this number of transactions that count its load up.
-fn counted_up(alloc: Global, count: u64) -> Result<String, Fail> {
+fn counted_up(alloc: Global, count: u64) -> Result<String, AllocError> {
     let insert = inserts(alloc, 1)?;
     let count_ups = count_ups(alloc, count)?;
-    Ok(format!(in alloc; "{insert}\n{count_ups}")?)
+    format!(in alloc; "{insert}\n{count_ups}")
 }
 
 /// Shows the loads.
@@ -32,7 +32,7 @@ const LOADS: &str =
     r#"{"id":9,"method":"transact","params":["Net",{"op":"select","table":"Switch","where":[],"columns":["load"]}]}"#;
 
 /// What it is answered for each load from the first to the last.
-fn loads(alloc: Global, first: u64, last: u64) -> Result<String, Fail> {
+fn loads(alloc: Global, first: u64, last: u64) -> Result<String, AllocError> {
     let mut answers = String::new(alloc);
     for load in first..last.saturating_add(1) {
         let answer = format!(in alloc;
@@ -45,7 +45,7 @@ fn loads(alloc: Global, first: u64, last: u64) -> Result<String, Fail> {
 
 /// What a file that fails during each of `count` commits may leave: every commit that was answered, and the next one whole or
 /// not at all.
-fn each(alloc: Global, count: u64) -> Result<String, Fail> {
+fn each(alloc: Global, count: u64) -> Result<String, AllocError> {
     let mut outcomes = String::new(alloc);
     for done in 0..count {
         let next = done.saturating_add(1);

@@ -2,8 +2,9 @@
 
 use crate::stops::{Before, Case, fails_once, replies_of, stops};
 use ov_core::Core;
+use ov_db::OpenFault;
 use ov_keeper::Keeper;
-use std::alloc::Global;
+use std::alloc::{AllocError, Global};
 use std::test::Fail;
 use test_basics::{
     Counter, Keeping, NET, Scripted, is_text, keeper_of, schema_of_text, whole_keeper_of,
@@ -44,19 +45,27 @@ fn reply_over<K: Keeper + Drop>(
     let schema = schema_of_text(alloc, schema)?;
     match Core::open(alloc, keeper, schema, Counter::after(99)) {
         Ok(mut core) => replies_of(alloc, &mut core, message),
-        Err(refused) => Ok(format!(in alloc; "{}", refused.fault)?),
+        Err(refused) => Ok(fault_text(alloc, refused.fault)?),
     }
 }
 
-/// Fails unless that is the reply over keepers of both formats that hold these lines of Net.
-fn replies(alloc: Global, case: [&str; 4]) -> Result<(), Fail> {
-    let [lines, schema, message, wanted] = case;
-    let in_cells = keeper_of(alloc, NET, lines)?;
-    let found = reply_over(alloc, in_cells, schema, message)?;
-    is_text(alloc, found.as_str(), wanted)?;
-    let whole = whole_keeper_of(alloc, NET, lines)?;
-    let found = reply_over(alloc, whole, schema, message)?;
+/// The sentence of a fault.
+fn fault_text(alloc: Global, fault: OpenFault) -> Result<String, AllocError> {
+    format!(in alloc; "{fault}")
+}
+
+/// Fails unless a machine over a keeper replies the last text of a case to its message, under its schema.
+fn is_reply<K: Keeper + Drop>(alloc: Global, keeper: K, case: [&str; 4]) -> Result<(), Fail> {
+    let [_, schema, message, wanted] = case;
+    let found = reply_over(alloc, keeper, schema, message)?;
     is_text(alloc, found.as_str(), wanted)
+}
+
+/// The same for keepers of both formats that hold the lines of the case, of Net.
+fn replies(alloc: Global, case: [&str; 4]) -> Result<(), Fail> {
+    let [lines, _, _, _] = case;
+    is_reply(alloc, keeper_of(alloc, NET, lines)?, case)?;
+    is_reply(alloc, whole_keeper_of(alloc, NET, lines)?, case)
 }
 
 /// What a keeper holds after such an opening: the format, its rows, and the text of its schema.
@@ -87,6 +96,18 @@ fn stored(alloc: Global, is_whole: bool, lines: &str, schema: &str) -> Result<St
     }
 }
 
+/// Fails unless that keeper holds this then, if it held one switch.
+fn is_stored(
+    alloc: Global,
+    is_whole: bool,
+    schema: &str,
+    wanted: Result<String, AllocError>,
+) -> Result<(), Fail> {
+    let wanted = wanted?;
+    let found = stored(alloc, is_whole, ONE, schema)?;
+    is_text(alloc, found.as_str(), wanted.as_str())
+}
+
 /// Selects all columns of all switches.
 pub(crate) const SELECT: &str =
     r#"{"id":1,"method":"transact","params":["Net",{"op":"select","table":"Switch","where":[]}]}"#;
@@ -112,21 +133,21 @@ fn a_newer_schema_converts_the_rows(rt: HostRuntime) -> Result<(), Fail> {
 
 #[test]
 fn a_converted_database_is_stored(rt: HostRuntime) -> Result<(), Fail> {
-    let wanted = format!(in rt.alloc(); "2: {NOTED_LINE}{NOTES}")?;
-    let found = stored(rt.alloc(), false, ONE, NOTES)?;
-    is_text(rt.alloc(), found.as_str(), wanted.as_str())?;
-    let found = stored(rt.alloc(), true, ONE, NOTES)?;
-    is_text(rt.alloc(), found.as_str(), wanted.as_str())
+    for is_whole in [false, true] {
+        let wanted = format!(in rt.alloc(); "2: {NOTED_LINE}{NOTES}");
+        is_stored(rt.alloc(), is_whole, NOTES, wanted)?;
+    }
+    Ok(())
 }
 
 /// The rows keep their versions.
 #[test]
 fn the_same_schema_stores_format_2(rt: HostRuntime) -> Result<(), Fail> {
-    let wanted = format!(in rt.alloc(); "2: {ONE};{NET}")?;
-    let found = stored(rt.alloc(), false, ONE, NET)?;
-    is_text(rt.alloc(), found.as_str(), wanted.as_str())?;
-    let found = stored(rt.alloc(), true, ONE, NET)?;
-    is_text(rt.alloc(), found.as_str(), wanted.as_str())
+    for is_whole in [false, true] {
+        let wanted = format!(in rt.alloc(); "2: {ONE};{NET}");
+        is_stored(rt.alloc(), is_whole, NET, wanted)?;
+    }
+    Ok(())
 }
 
 #[test]
@@ -170,12 +191,10 @@ fn rows_that_do_not_fit_the_newer_schema_are_refused(rt: HostRuntime) -> Result<
 
 #[test]
 fn a_refused_conversion_changes_nothing(rt: HostRuntime) -> Result<(), Fail> {
-    let found = stored(rt.alloc(), false, ONE, TEXTS)?;
-    let wanted = format!(in rt.alloc(); "2: {ONE};{NET}")?;
-    is_text(rt.alloc(), found.as_str(), wanted.as_str())?;
-    let found = stored(rt.alloc(), true, ONE, TEXTS)?;
-    let wanted = format!(in rt.alloc(); "1: {ONE};{NET}")?;
-    is_text(rt.alloc(), found.as_str(), wanted.as_str())
+    let wanted = format!(in rt.alloc(); "2: {ONE};{NET}");
+    is_stored(rt.alloc(), false, TEXTS, wanted)?;
+    let wanted = format!(in rt.alloc(); "1: {ONE};{NET}");
+    is_stored(rt.alloc(), true, TEXTS, wanted)
 }
 
 /// A conversion over files that fail. The look is at the stored schema.

@@ -3,7 +3,7 @@
 //! not synced is lost.
 
 use crate::stops::{Before, Case, fails_once, stops};
-use std::alloc::Global;
+use std::alloc::{AllocError, Global};
 use std::test::Fail;
 use test_basics::NET;
 
@@ -100,7 +100,7 @@ fn a_stopped_delete_takes_all_or_nothing_with_it(rt: HostRuntime) -> Result<(), 
 }
 
 /// One transaction of this number of inserts.
-pub(crate) fn inserts(alloc: Global, count: u64) -> Result<String, Fail> {
+pub(crate) fn inserts(alloc: Global, count: u64) -> Result<String, AllocError> {
     let mut message = String::from_str(
         alloc,
         "{\"id\":1,\"method\":\"transact\",\"params\":[\"Net\"",

@@ -2,7 +2,7 @@
 //! are deeply nested.
 
 use crate::serve::{ALL, reader_of, tells, writer_of};
-use std::alloc::Global;
+use std::alloc::{AllocError, Global};
 use std::io::ErrorKind;
 use std::sync::Wait;
 use std::test::Fail;
@@ -29,7 +29,7 @@ const ASKED: [(&str, &str); 4] = [
 ];
 
 /// The requests, joined.
-fn requests(alloc: Global) -> Result<String, Fail> {
+fn requests(alloc: Global) -> Result<String, AllocError> {
     let mut text = String::new(alloc);
     for (request, _) in ASKED {
         text.push_str(request)?;
@@ -38,7 +38,7 @@ fn requests(alloc: Global) -> Result<String, Fail> {
 }
 
 /// A cause, and the replies to the requests that end within the first `bytes` bytes.
-fn told_of(alloc: Global, cause: &str, bytes: usize) -> Result<String, Fail> {
+fn told_of(alloc: Global, cause: &str, bytes: usize) -> Result<String, AllocError> {
     let mut told = format!(in alloc; "{cause} ")?;
     let mut end: usize = 0;
     for (request, reply) in ASKED {
@@ -123,7 +123,7 @@ fn writes<H: Wait>(
 }
 
 /// All replies.
-fn replies(alloc: Global) -> Result<String, Fail> {
+fn replies(alloc: Global) -> Result<String, AllocError> {
     let mut text = String::new(alloc);
     for (_, reply) in ASKED {
         text.push_str(reply)?;
@@ -155,16 +155,20 @@ fn a_writer_may_stop_after_any_byte(rt: HostRuntime) -> Result<(), Fail> {
 }
 
 /// Arrays nested this many levels deep.
-fn nest(alloc: Global, levels: usize) -> Result<String, Fail> {
-    let mut text = String::from_utf8(vec![in alloc; b'['; levels]?)?;
-    text.push_str(String::from_utf8(vec![in alloc; b']'; levels]?)?.as_str())?;
+fn nest(alloc: Global, levels: usize) -> Result<String, AllocError> {
+    let mut text = String::new(alloc);
+    for bracket in ["[", "]"] {
+        for _ in 0..levels {
+            text.push_str(bracket)?;
+        }
+    }
     Ok(text)
 }
 
 /// A request, an echo of that, and another request.
-fn echo_of(alloc: Global, nest: &str) -> Result<String, Fail> {
+fn echo_of(alloc: Global, nest: &str) -> Result<String, AllocError> {
     let (request, _) = ASKED[0];
-    Ok(format!(in alloc; "{request}{{\"id\":1,\"method\":\"echo\",\"params\":{nest}}}{request}")?)
+    format!(in alloc; "{request}{{\"id\":1,\"method\":\"echo\",\"params\":{nest}}}{request}")
 }
 
 /// Fails unless a session that sends these is sent the reply to the first, then this, and no more.
@@ -189,13 +193,13 @@ fn echoes<H: Wait>(
 }
 
 /// The replies to an echo of 100 arrays, and to the request after it.
-fn deep_replies(alloc: Global) -> Result<String, Fail> {
+fn deep_replies(alloc: Global) -> Result<String, AllocError> {
     let nest = nest(alloc, 100)?;
     let (_, reply) = ASKED[0];
-    Ok(format!(in alloc;
+    format!(in alloc;
         "{{\"error\":null,\"id\":1,\"result\":{nest}}}{reply}",
         nest = nest.as_str()
-    )?)
+    )
 }
 
 #[test]

@@ -17,6 +17,8 @@ mod lock_rows;
 #[cfg(test)]
 mod machine;
 #[cfg(test)]
+mod made;
+#[cfg(test)]
 mod many_frames;
 #[cfg(test)]
 mod monitor_rows;

@@ -1,6 +1,7 @@
 //! Locks and `assert`, call by call (RFC 7047, 4.1.8 to 4.1.10 and 5.2.10).
 
-use std::alloc::Global;
+use crate::made::calls_as;
+use std::alloc::{AllocError, Global};
 use std::test::Fail;
 use test_support::calls;
 
@@ -36,8 +37,7 @@ got 3"#;
 
 #[test]
 fn stolen_and_given_back(rt: HostRuntime) -> Result<(), Fail> {
-    let script = format!(in rt.alloc(); "{OWNED}\n{STOLEN}")?;
-    calls(rt.alloc(), script.as_str())
+    calls_as(rt.alloc(), format!(in rt.alloc(); "{OWNED}\n{STOLEN}"))
 }
 
 /// A session that ends passes its locks on in ascending order of their names, whatever the order in which it asked for them.
@@ -202,16 +202,15 @@ call 1 256 lock ["L256"] -> {"error":null,"id":256,"result":{"locked":false}}
 "#;
 
 /// Adds the call by which session 1 asks for lock number `id`.
-fn push_request(alloc: Global, script: &mut String, id: u64) -> Result<(), Fail> {
+fn push_request(alloc: Global, script: &mut String, id: u64) -> Result<(), AllocError> {
     let line = format!(in alloc;
         "call 1 {id} lock [\"L{id}\"] -> {{\"error\":null,\"id\":{id},\"result\":{{\"locked\":true}}}}\n"
     )?;
-    script.push_str(line.as_str())?;
-    Ok(())
+    script.push_str(line.as_str())
 }
 
 /// Session 1 asks for 256 locks, waits for the last of them, and then asks for more.
-fn many_requests(alloc: Global) -> Result<String, Fail> {
+fn many_requests(alloc: Global) -> Result<String, AllocError> {
     let mut script = String::from_str(alloc, "open 2 -> 1;2;\n")?;
     for id in 1..256 {
         push_request(alloc, &mut script, id)?;
@@ -223,8 +222,7 @@ fn many_requests(alloc: Global) -> Result<String, Fail> {
 
 #[test]
 fn a_session_asks_for_256_locks(rt: HostRuntime) -> Result<(), Fail> {
-    let script = many_requests(rt.alloc())?;
-    calls(rt.alloc(), script.as_str())
+    calls_as(rt.alloc(), many_requests(rt.alloc()))
 }
 
 /// Params of the wrong number or kind, and names that are no `<id>`.
@@ -249,16 +247,15 @@ fn push_refused(
     script: &mut String,
     method: &str,
     params: &str,
-) -> Result<(), Fail> {
+) -> Result<(), AllocError> {
     let line = format!(in alloc;
         "\ncall 1 1 {method} {params} -> {{\"error\":\"syntax error\",\"id\":1,\"result\":null}}"
     )?;
-    script.push_str(line.as_str())?;
-    Ok(())
+    script.push_str(line.as_str())
 }
 
 /// Each of the three methods refuses all of these.
-fn wrong_params(alloc: Global) -> Result<String, Fail> {
+fn wrong_params(alloc: Global) -> Result<String, AllocError> {
     let mut script = String::from_str(alloc, "open 1 -> 1;")?;
     for params in WRONG {
         push_refused(alloc, &mut script, "lock", params)?;
@@ -270,8 +267,7 @@ fn wrong_params(alloc: Global) -> Result<String, Fail> {
 
 #[test]
 fn params_of_locks_are_refused(rt: HostRuntime) -> Result<(), Fail> {
-    let script = wrong_params(rt.alloc())?;
-    calls(rt.alloc(), script.as_str())
+    calls_as(rt.alloc(), wrong_params(rt.alloc()))
 }
 
 /// Names begin with a letter or an underscore, and are compared as they are read. A notification asks for nothing.
@@ -330,7 +326,7 @@ const BAD_ASSERTS: [&str; 8] = [
 ];
 
 /// Session 1 owns L, and makes each of these asserts before another operation.
-fn bad_asserts(alloc: Global) -> Result<String, Fail> {
+fn bad_asserts(alloc: Global) -> Result<String, AllocError> {
     let mut script = String::from_str(alloc, FIRST)?;
     for operation in BAD_ASSERTS {
         let line = format!(in alloc;
@@ -343,8 +339,7 @@ fn bad_asserts(alloc: Global) -> Result<String, Fail> {
 
 #[test]
 fn an_assert_names_a_lock(rt: HostRuntime) -> Result<(), Fail> {
-    let script = bad_asserts(rt.alloc())?;
-    calls(rt.alloc(), script.as_str())
+    calls_as(rt.alloc(), bad_asserts(rt.alloc()))
 }
 
 /// The lock is stolen while the transaction waits.

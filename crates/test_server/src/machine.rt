@@ -1,7 +1,8 @@
+use crate::made::tells_as;
 use ov_core::Core;
 use ov_db::{OpenFault, RefusedOpen};
 use ov_keeper::Keeper;
-use std::alloc::Global;
+use std::alloc::{AllocError, Global};
 use std::test::Fail;
 use test_basics::{
     Counter, Faults, NET, NetKeeper, failing, holds, is_text, keeper_of, net, net_keeper,
@@ -162,8 +163,7 @@ fn refusal(alloc: Global, stored: &str, lines: &str) -> Result<Option<OpenFault>
 /// Fails unless a machine is refused for this reason.
 fn refuses(alloc: Global, stored: &str, lines: &str, wanted: &str) -> Result<(), Fail> {
     let fault = refusal(alloc, stored, lines)?;
-    let told = format!(in alloc; "{fault:?}")?;
-    is_text(alloc, told.as_str(), wanted)
+    tells_as(alloc, format!(in alloc; "{fault:?}"), wanted)
 }
 
 /// A port that no row refers to.
@@ -228,21 +228,31 @@ fn failures_of(alloc: Global, keeper: NetKeeper) -> Result<u64, Fail> {
     Ok(core.failures())
 }
 
-/// Fails unless the device has failed once, as reported by the keeper and then by a machine over it.
-fn is_failed_once(alloc: Global, fault: OpenFault, before: u64, after: u64) -> Result<(), Fail> {
-    let told = format!(in alloc; "{fault:?} {before} {after}")?;
-    is_text(alloc, told.as_str(), "Keeping(Device) 1 1")
+/// A fault, and the failures that were counted before and after.
+fn failures_text(
+    alloc: Global,
+    fault: OpenFault,
+    before: u64,
+    after: u64,
+) -> Result<String, AllocError> {
+    format!(in alloc; "{fault:?} {before} {after}")
+}
+
+/// The fault of a refusal, and the failures that its keeper has counted, and then a machine over it.
+fn opened_again(alloc: Global, refused: RefusedOpen<NetKeeper>) -> Result<String, Fail> {
+    let RefusedOpen {
+        fault,
+        keeper,
+        schema: _,
+    } = refused;
+    let before = keeper.failures();
+    let after = failures_of(alloc, keeper)?;
+    Ok(failures_text(alloc, fault, before, after)?)
 }
 
 /// The device's failure is reported and counted, and the keeper that is handed back can be opened.
 #[test]
 fn a_refused_opening_gives_the_keeper_back(rt: HostRuntime) -> Result<(), Fail> {
-    let RefusedOpen {
-        fault,
-        keeper,
-        schema: _,
-    } = refused_at_the_load(rt.alloc())?;
-    let before = keeper.failures();
-    let after = failures_of(rt.alloc(), keeper)?;
-    is_failed_once(rt.alloc(), fault, before, after)
+    let told = opened_again(rt.alloc(), refused_at_the_load(rt.alloc())?)?;
+    is_text(rt.alloc(), told.as_str(), "Keeping(Device) 1 1")
 }

@@ -1,6 +1,7 @@
 //! Monitors, call by call: their initial rows, and the updates of each commit (RFC 7047, 4.1.5 to 4.1.7).
 
-use std::alloc::Global;
+use crate::made::{calls_as, converses_as};
+use std::alloc::{AllocError, Global};
 use std::test::Fail;
 use test_basics::Faults;
 use test_support::{calls, calls_over, converses};
@@ -35,8 +36,7 @@ const ASKED_AGAIN: &str =
 
 #[test]
 fn monitor_ids(rt: HostRuntime) -> Result<(), Fail> {
-    let conversation = format!(in rt.alloc(); "{TOLD}\n{ASKED_AGAIN}")?;
-    converses(rt.alloc(), conversation.as_str())
+    converses_as(rt.alloc(), format!(in rt.alloc(); "{TOLD}\n{ASKED_AGAIN}"))
 }
 
 /// Of two requests for a table, each reports its columns for the kinds that it selects.
@@ -283,7 +283,7 @@ call 1 71 monitor ["Net",7,{}] -> {"error":"resources exhausted","id":71,"result
 call 1 72 transact ["Net",{"op":"insert","table":"Switch","row":{"name":"s1"}}] -> {"id":null,"method":"update","params":[65,{"Switch":{"00000000-0000-4000-8000-000000000002":{"new":{"name":"s1"}}}}]}{"error":null,"id":72,"result":[{"uuid":["uuid","00000000-0000-4000-8000-000000000002"]}]}"#;
 
 /// Session 1 asks for 64 monitors, and then for more.
-fn many_monitors(alloc: Global) -> Result<String, Fail> {
+fn many_monitors(alloc: Global) -> Result<String, AllocError> {
     let mut script = String::from_str(alloc, "open 2 -> 1;2;\n")?;
     for id in 1..65 {
         let line = format!(in alloc;
@@ -297,6 +297,5 @@ fn many_monitors(alloc: Global) -> Result<String, Fail> {
 
 #[test]
 fn a_session_has_64_monitors(rt: HostRuntime) -> Result<(), Fail> {
-    let script = many_monitors(rt.alloc())?;
-    calls(rt.alloc(), script.as_str())
+    calls_as(rt.alloc(), many_monitors(rt.alloc()))
 }

@@ -1,7 +1,5 @@
 //! Machines that are opened over a database of stored format 1.
 
-ghost use Rattle.std.specs.Prelude.{◌≡◌, false};
-
 use crate::conversions::{NOTED, NOTES, ONE, SAME, SELECT};
 use crate::stops::{Before, Case, fails_once, replies_of, stops};
 use ov_core::Core;
@@ -21,35 +19,33 @@ fn selected<K: Keeper + Drop>(alloc: Global, keeper: K, schema: &str) -> Result<
 }
 
 /// The number of rows that a query gives.
-fn count<S: Alter + Drop>(connection: &mut Connection<S>, query: &str) -> Result<usize, Fail>
-    requires { connection.old.in_transaction ≡ false }
-{
-    Ok(connection.transaction().query_all(query, &[])?.len())
-}
-
-/// The number of rows that a query gives, and the connection.
-fn counted<S: Alter + Drop>(
-    connection: Connection<S>,
-    query: &str,
-) -> Result<(Connection<S>, usize), Fail> {
-    let mut connection = connection;
+fn count<S: Alter + Drop>(connection: &mut Connection<S>, query: &str) -> Result<usize, Fail> {
     if !connection.is_autocommit() {
         return Err(Fail::new("in a transaction"));
     }
-    let rows = count(&mut connection, query)?;
-    Ok((connection, rows))
+    Ok(connection.transaction().query_all(query, &[])?.len())
 }
 
-/// How many rows the tables `line`, `head` and `cell` have.
-fn counts<S: Alter + Drop>(alloc: Global, connection: Connection<S>) -> Result<String, Fail> {
-    let (connection, lines) = counted(connection, "SELECT tbl FROM line")?;
-    let (connection, heads) = counted(connection, "SELECT tbl FROM head")?;
-    let (_, cells) = counted(connection, "SELECT tbl FROM cell")?;
-    Ok(format!(in alloc; "{lines} {heads} {cells}")?)
+/// How many rows the tables `line`, `head` and `cell` have, after a text.
+fn with_counts<S: Alter + Drop>(
+    alloc: Global,
+    text: &str,
+    connection: &mut Connection<S>,
+) -> Result<String, Fail> {
+    let lines = count(connection, "SELECT tbl FROM line")?;
+    let heads = count(connection, "SELECT tbl FROM head")?;
+    let cells = count(connection, "SELECT tbl FROM cell")?;
+    Ok(format!(in alloc; "{text}{lines} {heads} {cells}")?)
 }
 
-/// The store of a connection.
-fn store_of<S: Alter + Drop>(alloc: Global, connection: Connection<S>) -> Result<Store<S>, Fail> {
+/// The store of the database that these statements make.
+fn store_after<S: Alter + Drop>(
+    alloc: Global,
+    connection: Connection<S>,
+    statements: &str,
+) -> Result<Store<S>, Fail> {
+    let mut connection = connection;
+    connection.execute_batch(statements)?;
     if !connection.is_autocommit() {
         return Err(Fail::new("in a transaction"));
     }
@@ -63,12 +59,9 @@ fn found<S: Alter + Drop>(
     statements: &str,
     schema: &str,
 ) -> Result<String, Fail> {
-    let mut connection = connection;
-    connection.execute_batch(statements)?;
-    let store = store_of(alloc, connection)?;
+    let store = store_after(alloc, connection, statements)?;
     let (store, replies) = selected(alloc, store, schema)?;
-    let counts = counts(alloc, store.close())?;
-    Ok(format!(in alloc; "{replies}{counts}")?)
+    with_counts(alloc, replies.as_str(), &mut store.close())
 }
 
 /// Fails unless the database of format 1 with one switch under Net replies this under the schema, and then has this many rows.
@@ -116,18 +109,31 @@ const KEPT: &str =
 const NAMES: &str =
     r#"{"id":2,"method":"transact","params":["Net",{"op":"select","table":"Switch","where":[],"columns":["name"]}]}"#;
 
+/// Fails unless this comes of the first opening over files that fail once and go on, or else over files that stop.
+fn opens_first(
+    alloc: Global,
+    is_once: bool,
+    schema: &str,
+    messages: &str,
+    wanted: &str,
+) -> Result<(), Fail> {
+    let statements = whole_file(alloc, NET, ONE)?;
+    let case = first_opening(statements.as_str(), schema, messages);
+    if is_once {
+        fails_once(alloc, &case, wanted)
+    } else {
+        stops(alloc, &case, wanted)
+    }
+}
+
 #[test]
 fn a_stopped_first_opening_leaves_the_rows(rt: HostRuntime) -> Result<(), Fail> {
-    let statements = whole_file(rt.alloc(), NET, ONE)?;
-    let case = first_opening(statements.as_str(), NET, NAMES);
-    stops(rt.alloc(), &case, KEPT)
+    opens_first(rt.alloc(), false, NET, NAMES, KEPT)
 }
 
 #[test]
 fn a_first_opening_that_fails_once_leaves_the_rows(rt: HostRuntime) -> Result<(), Fail> {
-    let statements = whole_file(rt.alloc(), NET, ONE)?;
-    let case = first_opening(statements.as_str(), NET, NAMES);
-    fails_once(rt.alloc(), &case, KEPT)
+    opens_first(rt.alloc(), true, NET, NAMES, KEPT)
 }
 
 /// The machine is not opened, and the database is the stored one, or the converted one, which Net does not open; or the machine
@@ -148,16 +154,12 @@ const NAMES_AND_NOTES: &str =
 fn a_stopped_conversion_of_format_1_leaves_the_stored_or_the_converted_database(
     rt: HostRuntime,
 ) -> Result<(), Fail> {
-    let statements = whole_file(rt.alloc(), NET, ONE)?;
-    let case = first_opening(statements.as_str(), NOTES, NAMES_AND_NOTES);
-    stops(rt.alloc(), &case, CONVERTED)
+    opens_first(rt.alloc(), false, NOTES, NAMES_AND_NOTES, CONVERTED)
 }
 
 #[test]
 fn a_conversion_of_format_1_that_fails_once_leaves_the_stored_or_the_converted_database(
     rt: HostRuntime,
 ) -> Result<(), Fail> {
-    let statements = whole_file(rt.alloc(), NET, ONE)?;
-    let case = first_opening(statements.as_str(), NOTES, NAMES_AND_NOTES);
-    fails_once(rt.alloc(), &case, CONVERTED)
+    opens_first(rt.alloc(), true, NOTES, NAMES_AND_NOTES, CONVERTED)
 }

@@ -1,7 +1,7 @@
 use ov_core::{Cause, StepFault};
 use ov_ends::{Clock, Source, Watched};
 use ov_serve::serve_one;
-use std::alloc::Global;
+use std::alloc::{AllocError, Global};
 use std::cell::Cell;
 use std::io;
 use std::io::{ErrorKind, Read, Write};
@@ -98,9 +98,9 @@ fn served<H: Wait, R: Read + Drop, W: Write + Drop>(
 }
 
 /// Why a session ended, and what was written.
-fn told_of(alloc: Global, cause: Cause, taken: Vec<u8>) -> Result<String, Fail> {
-    let taken = String::from_utf8(taken)?;
-    Ok(format!(in alloc; "{cause:?} {taken}")?)
+fn told_of(alloc: Global, cause: Cause, taken: &[u8]) -> Result<String, AllocError> {
+    let taken = str::from_utf8(taken).unwrap_or("no text");
+    format!(in alloc; "{cause:?} {taken}")
 }
 
 /// The same for a session over this reader and writer.
@@ -111,7 +111,7 @@ fn told<H: Wait>(
     writer: SlowWriter,
 ) -> Result<String, Fail> {
     let (cause, _, writer) = served(rt, alloc, reader, writer)?;
-    told_of(alloc, cause, writer.taken)
+    Ok(told_of(alloc, cause, writer.taken.as_slice())?)
 }
 
 /// Fails unless this is the outcome of a session.
@@ -271,8 +271,13 @@ impl Write for HandingWriter<'_> {
 }
 
 /// Why a session ended, how often its reader was called, and how often before all replies had been handed on.
-fn asked_text(alloc: Global, cause: Cause, calls: usize, early: usize) -> Result<String, Fail> {
-    Ok(format!(in alloc; "{cause:?} {calls} {early}")?)
+fn asked_text(
+    alloc: Global,
+    cause: Cause,
+    calls: usize,
+    early: usize,
+) -> Result<String, AllocError> {
+    format!(in alloc; "{cause:?} {calls} {early}")
 }
 
 /// The same for a session of two requests.
@@ -288,7 +293,7 @@ fn asked<H: Wait>(rt: &H, alloc: Global) -> Result<String, Fail> {
         taken: 0,
     };
     let (cause, reader, _) = served(rt, alloc, reader, writer)?;
-    asked_text(alloc, cause, reader.calls, reader.early)
+    Ok(asked_text(alloc, cause, reader.calls, reader.early)?)
 }
 
 #[test]

@@ -9,7 +9,7 @@ use ov_store::once::FailsOnce;
 use ov_store::store_over;
 use sqlite::{Alter, Connection, Files, Options};
 use sqlite_disk::{Fuse, Memory};
-use std::alloc::Global;
+use std::alloc::{AllocError, Global};
 use std::test::Fail;
 use test_basics::{Counter, NET, is_text, schema_of_text};
 use test_support::session_of;
@@ -45,7 +45,21 @@ pub(crate) struct Case<'a> {
 /// The largest number of runs over one file.
 const RUNS: u64 = 400;
 
-/// Adds the reply to a message, followed by how often the device has failed if the reply has an error.
+/// Adds a reply, followed by how often the device has failed if the reply has an error.
+fn push_line(
+    alloc: Global,
+    replies: &mut String,
+    reply: &str,
+    failures: u64,
+) -> Result<(), AllocError> {
+    replies.push_str(reply)?;
+    if has_error(reply) {
+        replies.push_str(format!(in alloc; " {failures}")?.as_str())?;
+    }
+    replies.push_str("\n")
+}
+
+/// Adds the line of the reply to a message.
 fn push_reply<K: Keeper + Drop>(
     alloc: Global,
     core: &mut Core<K, Counter>,
@@ -54,12 +68,9 @@ fn push_reply<K: Keeper + Drop>(
 ) -> Result<(), Fail> {
     let received = Received::read(alloc, Bytes::from_slice(alloc, message.as_bytes())?)?;
     core.step(alloc, 0, Event::Take(session_of(1), received));
-    let reply = String::from_utf8(core.take_output(alloc, session_of(1))?.into_vec())?;
-    replies.push_str(reply.as_str())?;
-    if has_error(reply.as_str()) {
-        replies.push_str(format!(in alloc; " {}", core.failures())?.as_str())?;
-    }
-    replies.push_str("\n")?;
+    let output = core.take_output(alloc, session_of(1))?;
+    let reply = str::from_utf8(output.as_slice())?;
+    push_line(alloc, replies, reply, core.failures())?;
     Ok(())
 }
 
@@ -243,6 +254,28 @@ fn add_outcome<D: Failing>(
     add_new(outcomes, outcome(alloc, case, replies, found.as_str())?)
 }
 
+/// Adds both outcomes of a run that was answered this and left these files: as they are, and after a crash. Returns whether a
+/// call failed.
+fn add_both<D: Failing>(
+    alloc: Global,
+    case: &Case<'_>,
+    replies: &str,
+    files: Files<D>,
+    outcomes: &mut Vec<String>,
+) -> Result<bool, Fail> {
+    let mut files = files;
+    let has_failed = files.log.has_failed() || files.db.has_failed();
+    add_outcome::<D>(alloc, case, replies, image_of(alloc, &files)?, outcomes)?;
+    add_outcome::<D>(
+        alloc,
+        case,
+        replies,
+        image_of_crash(alloc, files)?,
+        outcomes,
+    )?;
+    Ok(has_failed)
+}
+
 /// Adds what comes of a run over files that fail: where the program ends after it, and nothing that was written is lost, and
 /// where the machine stops. Returns whether a call failed.
 fn add_outcomes<D: Failing>(
@@ -253,13 +286,8 @@ fn add_outcomes<D: Failing>(
     outcomes: &mut Vec<String>,
 ) -> Result<bool, Fail> {
     let files = files_of::<D>(alloc, image, stop)?;
-    let (mut files, replies) = replies_in(alloc, files, 2, case.schema, case.messages)?;
-    let has_failed = files.log.has_failed() || files.db.has_failed();
-    let left = image_of(alloc, &files)?;
-    add_outcome::<D>(alloc, case, replies.as_str(), left, outcomes)?;
-    let left = image_of_crash(alloc, files)?;
-    add_outcome::<D>(alloc, case, replies.as_str(), left, outcomes)?;
-    Ok(has_failed)
+    let (files, replies) = replies_in(alloc, files, 2, case.schema, case.messages)?;
+    add_both(alloc, case, replies.as_str(), files, outcomes)
 }
 
 /// A number of calls of each file.
@@ -321,11 +349,11 @@ fn outcomes_of<D: Failing>(alloc: Global, case: &Case<'_>) -> Result<String, Fai
         let stop = Stop { is_log, calls };
         add_all_outcomes::<D>(alloc, case, &image, stop, &mut outcomes)?;
     }
-    joined(alloc, outcomes.as_slice())
+    Ok(joined(alloc, outcomes.as_slice())?)
 }
 
 /// The texts, joined.
-fn joined(alloc: Global, texts: &[String]) -> Result<String, Fail> {
+fn joined(alloc: Global, texts: &[String]) -> Result<String, AllocError> {
     let mut all = String::new(alloc);
     for text in texts {
         all.push_str(text.as_str())?;

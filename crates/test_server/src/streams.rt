@@ -1,6 +1,6 @@
-use std::alloc::Global;
+use crate::made::{converses_as, tells_as};
+use std::alloc::{AllocError, Global};
 use std::test::Fail;
-use test_basics::is_text;
 use test_support::converses;
 
 const LISTED: &str = r#">{"id":0,"method":"list_dbs","params":[]}
@@ -26,15 +26,16 @@ const ANSWERED: &str =
     r#"{"error":null,"id":0,"result":["Net"]}{"error":null,"id":"x","result":["a\"}",{}]}{"error":null,"id":1,"result":[{"uuid":["uuid","00000000-0000-4000-8000-000000000002"]}]}{"error":null,"id":2,"result":[{"rows":[{"_uuid":["uuid","00000000-0000-4000-8000-000000000002"],"_version":["uuid","00000000-0000-4000-8000-000000000001"],"load":0,"main":["set",[]],"name":"s1","ports":["set",[]]}]}]}"#;
 
 /// A conversation whose input comes in two pieces, cut at this place.
-fn cut_at(alloc: Global, place: usize) -> Result<String, Fail> {
-    let (first, second) = CONVERSATION.split_at_checked(place).ok_or("no place")?;
-    Ok(format!(in alloc; ">{first}\n>{second}\n<{ANSWERED}")?)
+fn cut_at(alloc: Global, place: usize) -> Result<String, AllocError> {
+    let (first, second) = CONVERSATION
+        .split_at_checked(place)
+        .unwrap_or(("no place", ""));
+    format!(in alloc; ">{first}\n>{second}\n<{ANSWERED}")
 }
 
 /// Holds that conversation.
 fn converses_cut_at(alloc: Global, place: usize) -> Result<(), Fail> {
-    let conversation = cut_at(alloc, place)?;
-    converses(alloc, conversation.as_str())
+    converses_as(alloc, cut_at(alloc, place))
 }
 
 #[test]
@@ -46,7 +47,7 @@ fn cut_at_every_place(rt: HostRuntime) -> Result<(), Fail> {
 }
 
 /// Lines that send the input byte by byte.
-fn bytes_of_input(alloc: Global) -> Result<String, Fail> {
+fn bytes_of_input(alloc: Global) -> Result<String, AllocError> {
     let mut lines = String::new(alloc);
     for byte in CONVERSATION.chars() {
         lines.push_str(format!(in alloc; ">{byte}\n")?.as_str())?;
@@ -55,15 +56,14 @@ fn bytes_of_input(alloc: Global) -> Result<String, Fail> {
 }
 
 /// A conversation of these lines, in which nothing is sent after the replies.
-fn cut_everywhere(alloc: Global) -> Result<String, Fail> {
+fn cut_everywhere(alloc: Global) -> Result<String, AllocError> {
     let lines = bytes_of_input(alloc)?;
-    Ok(format!(in alloc; "{lines}<{ANSWERED}\n<")?)
+    format!(in alloc; "{lines}<{ANSWERED}\n<")
 }
 
 #[test]
 fn answered_byte_by_byte(rt: HostRuntime) -> Result<(), Fail> {
-    let conversation = cut_everywhere(rt.alloc())?;
-    converses(rt.alloc(), conversation.as_str())
+    converses_as(rt.alloc(), cut_everywhere(rt.alloc()))
 }
 
 /// What is sent for an input, and how many entries the history then has: for damage, an unfinished message, a real in an id,
@@ -107,67 +107,58 @@ fn small_inputs(rt: HostRuntime) -> Result<(), Fail> {
 }
 
 /// A text of `count` letters.
-fn letters(alloc: Global, count: usize) -> Result<String, Fail> {
-    Ok(String::from_utf8(vec![in alloc; b'a'; count]?)?)
+fn letters(alloc: Global, count: usize) -> Result<String, AllocError> {
+    match String::from_utf8(vec![in alloc; b'a'; count]?) {
+        Ok(text) => Ok(text),
+        Err(_) => String::from_str(alloc, "no text"),
+    }
 }
 
 /// An echo of a text of `count` letters.
-fn echo_of(alloc: Global, count: usize) -> Result<String, Fail> {
+fn echo_of(alloc: Global, count: usize) -> Result<String, AllocError> {
     let text = letters(alloc, count)?;
-    Ok(format!(in alloc; "{{\"id\":0,\"method\":\"echo\",\"params\":[\"{text}\"]}}")?)
+    format!(in alloc; "{{\"id\":0,\"method\":\"echo\",\"params\":[\"{text}\"]}}")
 }
 
 /// The reply to that echo.
-fn reply_of(alloc: Global, count: usize) -> Result<String, Fail> {
+fn reply_of(alloc: Global, count: usize) -> Result<String, AllocError> {
     let text = letters(alloc, count)?;
-    Ok(format!(in alloc; "{{\"error\":null,\"id\":0,\"result\":[\"{text}\"]}}")?)
+    format!(in alloc; "{{\"error\":null,\"id\":0,\"result\":[\"{text}\"]}}")
 }
 
 /// The lengths of both in bytes.
-fn lengths(alloc: Global, count: usize) -> Result<(usize, usize), Fail> {
+fn lengths(alloc: Global, count: usize) -> Result<(usize, usize), AllocError> {
     let echo = echo_of(alloc, count)?.len();
     let reply = reply_of(alloc, count)?.len();
     Ok((echo, reply))
 }
 
-/// Fails unless both have these lengths.
-fn are_lengths(alloc: Global, count: usize, wanted: &str) -> Result<(), Fail> {
+/// Both as a text.
+fn lengths_text(alloc: Global, count: usize) -> Result<String, AllocError> {
     let lengths = lengths(alloc, count)?;
-    let told = format!(in alloc; "{lengths:?}")?;
-    is_text(alloc, told.as_str(), wanted)
+    format!(in alloc; "{lengths:?}")
 }
 
 /// A conversation in which an echo is answered.
-fn answered(alloc: Global, count: usize) -> Result<String, Fail> {
+fn answered(alloc: Global, count: usize) -> Result<String, AllocError> {
     let echo = echo_of(alloc, count)?;
     let reply = reply_of(alloc, count)?;
-    Ok(format!(in alloc; ">{echo}\n<{reply}")?)
+    format!(in alloc; ">{echo}\n<{reply}")
 }
 
 /// A conversation in which an echo is not answered.
-fn unanswered(alloc: Global, count: usize) -> Result<String, Fail> {
+fn unanswered(alloc: Global, count: usize) -> Result<String, AllocError> {
     let echo = echo_of(alloc, count)?;
-    Ok(format!(in alloc; ">{echo}\n<")?)
-}
-
-/// Holds the conversation in which an echo is answered.
-fn is_answered(alloc: Global, count: usize) -> Result<(), Fail> {
-    let conversation = answered(alloc, count)?;
-    converses(alloc, conversation.as_str())
-}
-
-/// Holds the conversation in which an echo is not answered.
-fn is_not_answered(alloc: Global, count: usize) -> Result<(), Fail> {
-    let conversation = unanswered(alloc, count)?;
-    converses(alloc, conversation.as_str())
+    format!(in alloc; ">{echo}\n<")
 }
 
 /// A message of 1,048,576 bytes is answered, and one that is a byte longer is not.
 #[test]
 fn longest_message(rt: HostRuntime) -> Result<(), Fail> {
-    are_lengths(rt.alloc(), 1_048_538, "(1048576, 1048573)")?;
-    is_answered(rt.alloc(), 1_048_538)?;
-    is_not_answered(rt.alloc(), 1_048_539)
+    let lengths = lengths_text(rt.alloc(), 1_048_538);
+    tells_as(rt.alloc(), lengths, "(1048576, 1048573)")?;
+    converses_as(rt.alloc(), answered(rt.alloc(), 1_048_538))?;
+    converses_as(rt.alloc(), unanswered(rt.alloc(), 1_048_539))
 }
 
 /// What a closed session sends has no effect.

@@ -1,3 +1,4 @@
+use crate::made::converses_as;
 use std::test::Fail;
 use test_basics::NET;
 use test_support::converses;
@@ -73,6 +74,6 @@ fn the_schema_is_told(rt: HostRuntime) -> Result<(), Fail> {
     let conversation = format!(in rt.alloc();
         ">{{\"id\":1,\"method\":\"get_schema\",\"params\":[\"Net\"]}}
 <{{\"error\":null,\"id\":1,\"result\":{NET}}}"
-    )?;
-    converses(rt.alloc(), conversation.as_str())
+    );
+    converses_as(rt.alloc(), conversation)
 }

@@ -1,7 +1,7 @@
 use ov_base::Bytes;
 use ov_core::{Attempt, Cause, Event};
 use ov_rpc::Received;
-use std::alloc::Global;
+use std::alloc::{AllocError, Global};
 use std::test::Fail;
 use test_basics::{Faults, Scripted, agrees};
 use test_support::{NetCore, net_core, number_or_none, session_of, step_text};
@@ -21,21 +21,19 @@ struct Waits {
 }
 
 /// The operation that waits for a switch of a name.
-fn wait_for(alloc: Global, name: &str, timeout: &str) -> Result<String, Fail> {
-    Ok(format!(in alloc;
+fn wait_for(alloc: Global, name: &str, timeout: &str) -> Result<String, AllocError> {
+    format!(in alloc;
         "{{\"op\":\"wait\",\"table\":\"Switch\",{timeout}\"where\":[[\"name\",\"==\",\"{name}\"]],\"columns\":[\"name\"],\"until\":\"==\",\"rows\":[{{\"name\":\"{name}\"}}]}}"
-    )?)
+    )
 }
 
 /// The operation that inserts a switch of a name.
-fn insert_of(alloc: Global, name: &str) -> Result<String, Fail> {
-    Ok(format!(in alloc;
-        "{{\"op\":\"insert\",\"table\":\"Switch\",\"row\":{{\"name\":\"{name}\"}}}}"
-    )?)
+fn insert_of(alloc: Global, name: &str) -> Result<String, AllocError> {
+    format!(in alloc; "{{\"op\":\"insert\",\"table\":\"Switch\",\"row\":{{\"name\":\"{name}\"}}}}")
 }
 
 /// The operation of a `wait` command: a name, optionally followed by a timeout.
-fn wait_of(alloc: Global, rest: &str) -> Result<String, Fail> {
+fn wait_of(alloc: Global, rest: &str) -> Result<String, AllocError> {
     match rest.split_once(" ") {
         Some((name, timeout)) => wait_within(alloc, name, timeout),
         None => wait_for(alloc, rest, ""),
@@ -43,24 +41,23 @@ fn wait_of(alloc: Global, rest: &str) -> Result<String, Fail> {
 }
 
 /// The operation that waits for a switch of a name, with a timeout.
-fn wait_within(alloc: Global, name: &str, timeout: &str) -> Result<String, Fail> {
+fn wait_within(alloc: Global, name: &str, timeout: &str) -> Result<String, AllocError> {
     let timeout = format!(in alloc; "\"timeout\":{timeout},")?;
     wait_for(alloc, name, timeout.as_str())
 }
 
 /// The operations that wait for one switch and insert another.
-fn chain_of(alloc: Global, names: &str) -> Result<String, Fail> {
-    let (name, other) = names.split_once(" ").ok_or("no name")?;
+fn chain_of(alloc: Global, names: &str) -> Result<String, AllocError> {
+    let (name, other) = names.split_once(" ").unwrap_or((names, ""));
     let wait = wait_for(alloc, name, "")?;
     let insert = insert_of(alloc, other)?;
-    Ok(format!(in alloc; "{wait},{insert}")?)
+    format!(in alloc; "{wait},{insert}")
 }
 
 /// Adds an attempt.
-fn push_attempt(alloc: Global, text: &mut String, attempt: &Attempt) -> Result<(), Fail> {
+fn push_attempt(alloc: Global, text: &mut String, attempt: &Attempt) -> Result<(), AllocError> {
     let item = format!(in alloc; "{} {:?};", attempt.number, attempt.outcome)?;
-    text.push_str(item.as_str())?;
-    Ok(())
+    text.push_str(item.as_str())
 }
 
 impl Waits {
@@ -70,20 +67,20 @@ impl Waits {
     }
 
     /// Takes a message of a session.
-    fn take(&mut self, alloc: Global, serial: &str, text: &str) -> Result<String, Fail> {
-        let session = session_of(serial.parse::<u64>()?);
+    fn take(&mut self, alloc: Global, serial: u64, text: &str) -> Result<String, Fail> {
         let received = Received::read(alloc, Bytes::from_slice(alloc, text.as_bytes())?)?;
-        self.step(alloc, 0, Event::Take(session, received))
+        self.step(alloc, 0, Event::Take(session_of(serial), received))
     }
 
-    /// Takes a transaction of a session.
+    /// Takes a transaction of a session, if its operations were made.
     fn transact(
         &mut self,
         alloc: Global,
-        serial: &str,
+        serial: u64,
         id: &str,
-        operations: &str,
+        operations: Result<String, AllocError>,
     ) -> Result<String, Fail> {
+        let operations = operations?;
         let text = format!(in alloc;
             "{{\"id\":{id},\"method\":\"transact\",\"params\":[\"Net\",{operations}]}}"
         )?;
@@ -91,66 +88,40 @@ impl Waits {
     }
 
     /// Takes the notification that cancels a transaction.
-    fn cancel(&mut self, alloc: Global, serial: &str, id: &str) -> Result<String, Fail> {
+    fn cancel(&mut self, alloc: Global, serial: u64, id: &str) -> Result<String, Fail> {
         let text = format!(in alloc; "{{\"id\":null,\"method\":\"cancel\",\"params\":[{id}]}}")?;
         self.take(alloc, serial, text.as_str())
-    }
-
-    /// Takes a transaction that waits for one switch and inserts another.
-    fn chain(
-        &mut self,
-        alloc: Global,
-        serial: &str,
-        id: &str,
-        names: &str,
-    ) -> Result<String, Fail> {
-        let operations = chain_of(alloc, names)?;
-        self.transact(alloc, serial, id, operations.as_str())
-    }
-
-    /// Takes a transaction that waits for a switch.
-    fn wait(&mut self, alloc: Global, serial: &str, id: &str, rest: &str) -> Result<String, Fail> {
-        let operation = wait_of(alloc, rest)?;
-        self.transact(alloc, serial, id, operation.as_str())
-    }
-
-    /// Takes a transaction that inserts a switch.
-    fn insert(
-        &mut self,
-        alloc: Global,
-        serial: &str,
-        id: &str,
-        name: &str,
-    ) -> Result<String, Fail> {
-        let operation = insert_of(alloc, name)?;
-        self.transact(alloc, serial, id, operation.as_str())
     }
 
     /// Takes waits of a session for s9, with these ids.
     fn waits(
         &mut self,
         alloc: Global,
-        serial: &str,
+        serial: u64,
         first: &str,
         beyond: &str,
     ) -> Result<String, Fail> {
-        for id in first.parse::<u64>()?..beyond.parse::<u64>()? {
+        for id in first.parse::<u64>().unwrap_or(0)..beyond.parse::<u64>().unwrap_or(0) {
             let id = format!(in alloc; "{id}")?;
-            self.wait(alloc, serial, id.as_str(), "s9")?;
+            self.transact(alloc, serial, id.as_str(), wait_of(alloc, "s9"))?;
         }
         Ok(String::new(alloc))
     }
 
     /// What a session was sent.
-    fn got(&mut self, alloc: Global, serial: &str) -> Result<String, Fail> {
-        let session = session_of(serial.parse::<u64>()?);
-        let output = self.core.take_output(alloc, session)?;
-        Ok(String::from_utf8(output.into_vec())?)
+    fn got(&mut self, alloc: Global, serial: u64) -> Result<String, AllocError> {
+        let output = self.core.take_output(alloc, session_of(serial))?;
+        match String::from_utf8(output.into_vec()) {
+            Ok(text) => Ok(text),
+            Err(_) => String::from_str(alloc, "no text"),
+        }
     }
 
     /// The attempts that the last entry lists.
-    fn outcomes(&self, alloc: Global) -> Result<String, Fail> {
-        let entry = self.core.history().back().ok_or("no entry")?;
+    fn outcomes(&self, alloc: Global) -> Result<String, AllocError> {
+        let Some(entry) = self.core.history().back() else {
+            return String::from_str(alloc, "no entry");
+        };
         let mut text = String::new(alloc);
         for attempt in &entry.choice.outcomes {
             push_attempt(alloc, &mut text, attempt)?;
@@ -159,45 +130,65 @@ impl Waits {
     }
 
     /// Opens a session, and returns its serial.
-    fn open(&mut self, alloc: Global) -> Result<String, Fail> {
+    fn open(&mut self, alloc: Global) -> Result<String, AllocError> {
         match self.core.open_session() {
-            Ok(session) => Ok(format!(in alloc; "{}", session.serial)?),
-            Err(fault) => Ok(format!(in alloc; "{fault:?}")?),
+            Ok(session) => format!(in alloc; "{}", session.serial),
+            Err(fault) => format!(in alloc; "{fault:?}"),
         }
     }
 
     /// Advances time to a moment.
-    fn tick(&mut self, alloc: Global, moment: &str) -> Result<String, Fail> {
-        match self.core.tick(alloc, moment.parse::<u64>()?) {
+    fn tick(&mut self, alloc: Global, moment: u64) -> Result<String, AllocError> {
+        match self.core.tick(alloc, moment) {
             Ok(()) => Ok(String::new(alloc)),
-            Err(fault) => Ok(format!(in alloc; "{fault:?}")?),
+            Err(fault) => format!(in alloc; "{fault:?}"),
         }
     }
 
     /// Advances time to a moment if a transaction is due by it, and returns whether one was.
-    fn pass(&mut self, alloc: Global, moment: &str) -> Result<String, Fail> {
-        match self.core.pass_where_due(alloc, moment.parse::<u64>()?) {
-            Ok(ticks) => Ok(format!(in alloc; "{ticks}")?),
-            Err(fault) => Ok(format!(in alloc; "{fault:?}")?),
+    fn pass(&mut self, alloc: Global, moment: u64) -> Result<String, AllocError> {
+        match self.core.pass_where_due(alloc, moment) {
+            Ok(ticks) => format!(in alloc; "{ticks}"),
+            Err(fault) => format!(in alloc; "{fault:?}"),
         }
     }
 
     /// Ends the input of a session.
-    fn finish(&mut self, alloc: Global, serial: &str) -> Result<String, Fail> {
-        let session = session_of(serial.parse::<u64>()?);
-        self.step(alloc, 0, Event::Close(session, Cause::InputEnded))
+    fn finish(&mut self, alloc: Global, serial: u64) -> Result<String, Fail> {
+        self.step(
+            alloc,
+            0,
+            Event::Close(session_of(serial), Cause::InputEnded),
+        )
     }
 
     /// The answer to a command about a transaction of a session.
-    fn act(&mut self, alloc: Global, word: &str, serial: &str, rest: &str) -> Result<String, Fail> {
+    fn act(&mut self, alloc: Global, word: &str, serial: u64, rest: &str) -> Result<String, Fail> {
         let (id, rest) = rest.split_once(" ").unwrap_or((rest, ""));
         match word {
-            "wait" => self.wait(alloc, serial, id, rest),
+            "wait" => self.transact(alloc, serial, id, wait_of(alloc, rest)),
             "waits" => self.waits(alloc, serial, id, rest),
-            "chain" => self.chain(alloc, serial, id, rest),
+            "chain" => self.transact(alloc, serial, id, chain_of(alloc, rest)),
             "cancel" => self.cancel(alloc, serial, id),
-            "insert" => self.insert(alloc, serial, id, rest),
+            "insert" => self.transact(alloc, serial, id, insert_of(alloc, rest)),
             _ => Err(Fail::new("no command")),
+        }
+    }
+
+    /// The answer to a command about time or a session, with its number.
+    fn answer_at(
+        &mut self,
+        alloc: Global,
+        word: &str,
+        number: u64,
+        rest: &str,
+    ) -> Result<String, Fail> {
+        match word {
+            "tick" => Ok(self.tick(alloc, number)?),
+            "pass" => Ok(self.pass(alloc, number)?),
+            "finish" => self.finish(alloc, number),
+            "got" => Ok(self.got(alloc, number)?),
+            _ => self.act(alloc, word, number, rest),
         }
     }
 }
@@ -205,18 +196,20 @@ impl Waits {
 impl Scripted for Waits {
     fn answer(&mut self, alloc: Global, command: &str) -> Result<String, Fail> {
         let (word, rest) = command.split_once(" ").unwrap_or((command, ""));
-        let (serial, others) = rest.split_once(" ").unwrap_or((rest, ""));
-        match word {
-            "open" => self.open(alloc),
-            "tick" => self.tick(alloc, rest),
-            "pass" => self.pass(alloc, rest),
-            "finish" => self.finish(alloc, serial),
-            "got" => self.got(alloc, serial),
-            "outcomes" => self.outcomes(alloc),
-            "due" => number_or_none(alloc, self.core.due()),
-            _ => self.act(alloc, word, serial, others),
+        let (number, others) = rest.split_once(" ").unwrap_or((rest, ""));
+        match (word, number.parse::<u64>()) {
+            ("open", _) => Ok(self.open(alloc)?),
+            ("outcomes", _) => Ok(self.outcomes(alloc)?),
+            ("due", _) => number_or_none(alloc, self.core.due()),
+            (_, Ok(number)) => self.answer_at(alloc, word, number, others),
+            (_, Err(_)) => Err(Fail::new("no number")),
         }
     }
+}
+
+/// Runs a script that was made on a new machine.
+fn waits_as(alloc: Global, script: Result<String, AllocError>) -> Result<(), Fail> {
+    waits_over(alloc, Faults::NONE, script?.as_str())
 }
 
 /// Runs a script of commands on a new machine, whose keeper fails as `faults` says.
@@ -310,7 +303,7 @@ got 2
 got 1 -> {"error":null,"id":65,"result":[{"uuid":["uuid","00000000-0000-4000-8000-000000000043"]}]}"#;
 
 /// The replies to the transactions that wait with the ids from 2 to 64.
-fn replies(alloc: Global) -> Result<String, Fail> {
+fn replies(alloc: Global) -> Result<String, AllocError> {
     let mut text = String::new(alloc);
     for id in 2..65 {
         let reply = format!(in alloc; "{{\"error\":null,\"id\":{id},\"result\":[{{}}]}}")?;
@@ -320,27 +313,25 @@ fn replies(alloc: Global) -> Result<String, Fail> {
 }
 
 /// The script with these replies.
-fn sixty_four(alloc: Global) -> Result<String, Fail> {
+fn sixty_four(alloc: Global) -> Result<String, AllocError> {
     let replies = replies(alloc)?;
-    Ok(format!(in alloc; "{SIXTY_FOUR}{replies}")?)
+    format!(in alloc; "{SIXTY_FOUR}{replies}")
 }
 
 #[test]
 fn sixty_four_wait_at_most(rt: HostRuntime) -> Result<(), Fail> {
-    let script = sixty_four(rt.alloc())?;
-    waits_over(rt.alloc(), Faults::NONE, script.as_str())
+    waits_as(rt.alloc(), sixty_four(rt.alloc()))
 }
 
 /// Adds a session with 64 transactions that wait.
-fn push_waiter(alloc: Global, script: &mut String, serial: u64) -> Result<(), Fail> {
+fn push_waiter(alloc: Global, script: &mut String, serial: u64) -> Result<(), AllocError> {
     let commands = format!(in alloc; "open -> {serial}\nwaits {serial} 1 65\ngot {serial}\n")?;
-    script.push_str(commands.as_str())?;
-    Ok(())
+    script.push_str(commands.as_str())
 }
 
 /// As many transactions wait as may: 64 of each of 64 sessions. Once what they wait for is inserted, each is answered. What
 /// session 64 is sent, its insert first, follows.
-fn all_that_may(alloc: Global) -> Result<String, Fail> {
+fn all_that_may(alloc: Global) -> Result<String, AllocError> {
     let mut script = String::new(alloc);
     for serial in 1..65 {
         push_waiter(alloc, &mut script, serial)?;
@@ -360,8 +351,7 @@ got 64 -> {{"error":null,"id":65,"result":[{{"uuid":["uuid","00000000-0000-4000-
 
 #[test]
 fn all_that_may_wait_are_answered(rt: HostRuntime) -> Result<(), Fail> {
-    let script = all_that_may(rt.alloc())?;
-    waits_over(rt.alloc(), Faults::NONE, script.as_str())
+    waits_as(rt.alloc(), all_that_may(rt.alloc()))
 }
 
 /// What a closed session asked for is dropped. Canceling an id that does not wait, or that waits for another session, does

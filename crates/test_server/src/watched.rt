@@ -1,9 +1,9 @@
+use crate::made::tells_as;
 use ov_ends::{Sink, Source, Watched};
 use std::alloc::Global;
 use std::io;
 use std::io::{ErrorKind, Read, Write};
 use std::test::Fail;
-use test_basics::is_text;
 
 /// A reader that counts its calls. Each gives two bytes, or fails.
 #[derive(Drop)]
@@ -83,8 +83,7 @@ fn flushed_once(fails: bool) -> (bool, u64, u64) {
 
 /// Fails unless this is the outcome of a call.
 fn is_once(alloc: Global, found: (Option<usize>, u64, u64), wanted: &str) -> Result<(), Fail> {
-    let told = format!(in alloc; "{found:?}")?;
-    is_text(alloc, told.as_str(), wanted)
+    tells_as(alloc, format!(in alloc; "{found:?}"), wanted)
 }
 
 #[test]
@@ -97,8 +96,7 @@ fn a_failure_is_one_of_what_is_watched(rt: HostRuntime) -> Result<(), Fail> {
 
 /// Fails unless this is the outcome of a flush.
 fn is_flushed(alloc: Global, found: (bool, u64, u64), wanted: &str) -> Result<(), Fail> {
-    let told = format!(in alloc; "{found:?}")?;
-    is_text(alloc, told.as_str(), wanted)
+    tells_as(alloc, format!(in alloc; "{found:?}"), wanted)
 }
 
 #[test]

@@ -1,8 +1,9 @@
+use crate::made::tells_as;
 use ov_base::Text;
 use ov_words::{Ending, Settings, WordFault, error_line_of, read_words, status_of};
-use std::alloc::Global;
+use std::alloc::{AllocError, Global};
 use std::test::Fail;
-use test_basics::{Scripted, agrees, is_text};
+use test_basics::{Scripted, agrees};
 
 /// Arguments after the program's name, each followed by a comma, and the settings: the schema, the database, the address, the
 /// number of sessions, and whether the streams are named.
@@ -63,7 +64,7 @@ help, -> refused
 --listen,a,--sessions,two, -> refused";
 
 /// The program's name, followed by the arguments of a case.
-fn words_of<'a>(alloc: Global, case: &'a str) -> Result<Vec<&'a str>, Fail> {
+fn words_of<'a>(alloc: Global, case: &'a str) -> Result<Vec<&'a str>, AllocError> {
     let mut words = Vec::new(alloc);
     words.push("ov_server")?;
     for word in case.split_terminator(',') {
@@ -81,28 +82,28 @@ fn name_of(named: &Option<Text>) -> &str {
 }
 
 /// A number of sessions, or `-` for none.
-fn number_of(alloc: Global, sessions: Option<u64>) -> Result<String, Fail> {
+fn number_of(alloc: Global, sessions: Option<u64>) -> Result<String, AllocError> {
     match sessions {
-        Some(count) => Ok(format!(in alloc; "{count}")?),
-        None => Ok(String::from_str(alloc, "-")?),
+        Some(count) => format!(in alloc; "{count}"),
+        None => String::from_str(alloc, "-"),
     }
 }
 
-fn text_of(alloc: Global, settings: &Settings) -> Result<String, Fail> {
+fn text_of(alloc: Global, settings: &Settings) -> Result<String, AllocError> {
     let schema = name_of(&settings.schema);
     let db = name_of(&settings.db);
     let listen = name_of(&settings.listen);
     let sessions = number_of(alloc, settings.sessions)?;
     let is_on_streams = settings.is_on_streams;
-    Ok(format!(in alloc; "{schema}|{db}|{listen}|{sessions}|{is_on_streams}")?)
+    format!(in alloc; "{schema}|{db}|{listen}|{sessions}|{is_on_streams}")
 }
 
 /// The settings that arguments give, or `refused`.
-fn told(alloc: Global, read: Result<Settings, WordFault>) -> Result<String, Fail> {
+fn told(alloc: Global, read: Result<Settings, WordFault>) -> Result<String, AllocError> {
     match read {
         Ok(settings) => text_of(alloc, &settings),
-        Err(WordFault::Refused) => Ok(String::from_str(alloc, "refused")?),
-        Err(WordFault::Memory) => Err(Fail::new("out of memory")),
+        Err(WordFault::Refused) => String::from_str(alloc, "refused"),
+        Err(WordFault::Memory) => String::from_str(alloc, "out of memory"),
     }
 }
 
@@ -113,7 +114,7 @@ struct Words;
 impl Scripted for Words {
     fn answer(&mut self, alloc: Global, command: &str) -> Result<String, Fail> {
         let words = words_of(alloc, command)?;
-        told(alloc, read_words(alloc, words.as_slice()))
+        Ok(told(alloc, read_words(alloc, words.as_slice()))?)
     }
 }
 
@@ -127,12 +128,11 @@ fn refuses_words(rt: HostRuntime) -> Result<(), Fail> {
     agrees(rt.alloc(), Words, REFUSED)
 }
 
-/// Fails unless an ending has this status and this line, or none.
-fn ends(alloc: Global, ending: Ending, wanted: &str) -> Result<(), Fail> {
+/// The status of an ending, and its line.
+fn ended(alloc: Global, ending: Ending) -> Result<String, AllocError> {
     let status = status_of(ending);
     let line = error_line_of(ending).unwrap_or("no line");
-    let told = format!(in alloc; "{status} {line}")?;
-    is_text(alloc, told.as_str(), wanted)
+    format!(in alloc; "{status} {line}")
 }
 
 /// Each ending has its status, and its line unless the status is 0.
@@ -146,7 +146,7 @@ fn tells_each_ending(rt: HostRuntime) -> Result<(), Fail> {
         (Ending::Streams, "5 ov_server: input or output"),
         (Ending::Memory, "6 ov_server: memory"),
     ] {
-        ends(rt.alloc(), ending, wanted)?;
+        tells_as(rt.alloc(), ended(rt.alloc(), ending), wanted)?;
     }
     Ok(())
 }
