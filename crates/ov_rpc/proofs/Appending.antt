@@ -4,7 +4,7 @@ use Rattle.std.proofs.lemmas.List.{append_assoc, length-append}
 use Rattle.std.proofs.Math.Seq.{take-append_seam}
 use Rattle.serde_json.specs.Data.{Data, null, string, Items, no_items, item, array}
 use Rattle.serde_json.specs.Written.{compact_text, comma_if}
-use Rattle.ov_results.specs.Texts.{joined, has_none}
+use Rattle.ov_results.specs.Texts.{comma_joined, has_none}
 use Rattle.ov_results.proofs.Joining.{closed, with_more}
 use Rattle.ov_specs.specs.wire.Frame.{frame, reply_tree}
 use Rattle.ov_specs.specs.operations.Transaction.{and_item}
@@ -22,13 +22,13 @@ after id t more =
 
 -- a reply without what closes it
 abbrev open_reply : Data → Items → List ℕ
-open_reply id items = from_result id (91 ∷ joined false items)
+open_reply id items = from_result id (91 ∷ comma_joined false items)
 
 framed : (id : Data) (items : Items) → frame (reply_tree id (array items)) ≡ open_reply id items ++ 93 ∷ 125 ∷ []
 framed id items =
     ap (λ t. from_result id (91 ∷ (t ++ 125 ∷ []))) (closed false items)
-    ∙ (ap (λ t. from_result id (91 ∷ t)) (append_assoc (joined false items) (93 ∷ []) (125 ∷ []))
-    ∙ sym (after id (91 ∷ joined false items) (93 ∷ 125 ∷ [])))
+    ∙ (ap (λ t. from_result id (91 ∷ t)) (append_assoc (comma_joined false items) (93 ∷ []) (125 ∷ []))
+    ∙ sym (after id (91 ∷ comma_joined false items) (93 ∷ 125 ∷ [])))
 
 shorter : (xs : List ℕ) → take (length (xs ++ 93 ∷ 125 ∷ []) - 2) (xs ++ 93 ∷ 125 ∷ []) ≡ xs
 shorter xs =
@@ -50,6 +50,6 @@ pub appended : (id : Data) (items : Items) (first : Bool) (more : Data) → (IsT
     → ((open_reply id items ++ (if first then [] else 44 ∷ [])) ++ compact_text more) ++ 93 ∷ 125 ∷ [] ≡ frame (reply_tree id (array (and_item items more)))
 appended id items first more same =
     let with_separator = ap (λ t. ((open_reply id items ++ t) ++ compact_text more) ++ 93 ∷ 125 ∷ []) (separated first items same) in
-    let together = append_assoc (open_reply id items) (comma_if (not (has_none items))) (compact_text more) ∙ after id (91 ∷ joined false items) (comma_if (not (has_none items)) ++ compact_text more) in
+    let together = append_assoc (open_reply id items) (comma_if (not (has_none items))) (compact_text more) ∙ after id (91 ∷ comma_joined false items) (comma_if (not (has_none items)) ++ compact_text more) in
     let whole = together ∙ ap (λ t. from_result id (91 ∷ t)) (sym (with_more items more)) in
     with_separator ∙ (ap (λ t. t ++ 93 ∷ 125 ∷ []) whole ∙ sym (framed id (and_item items more)))
