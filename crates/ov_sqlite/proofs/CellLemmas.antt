@@ -44,10 +44,10 @@ pub keyed : (k : LineKey) (r : Row) → has_key k r ≡ true → k ≡ row_key r
 keyed k r h = tied_same k (row_key r) h
 
 -- two keys of one row are one
-two_keys : (k q : LineKey) (r : Row) → has_key q r ≡ true → has_key k r ≡ eq_by_cmp line_cmp k q
+pub two_keys : (k q : LineKey) (r : Row) → has_key q r ≡ true → has_key k r ≡ eq_by_cmp line_cmp k q
 two_keys k q r h = ap (eq_by_cmp line_cmp k) (sym (keyed q r h))
 
-turned : (k q : LineKey) → eq_by_cmp line_cmp k q ≡ eq_by_cmp line_cmp q k
+pub turned : (k q : LineKey) → eq_by_cmp line_cmp k q ≡ eq_by_cmp line_cmp q k
 turned k q = (eq_by_cmp_equiv key_total).symm k q
 
 pub is_row_of : (r : Row) (q : LineKey) → same_key (row_key r) q ≡ has_key q r

@@ -40,11 +40,11 @@ body_kept k name body m l there has = put_back m k l there ∙ ap (λ (cells : C
 -- the first cell of a column is found behind those of others
 found_behind : (name was : List ℕ) (front back : List CellEntry) → AllByRecursion (λ (e : CellEntry). e.0 ≢ name) front → entry_at name_cmp name (front ++ (name, was) ∷ back) ≡ Some was
 found_behind name was [] back apart = rw (name_itself name) refl
-found_behind name was (e ∷ front) back apart = go (eq_by_cmp name_cmp name e.0) refl
+found_behind name was (e ∷ front) back apart = go (eq_by_cmp name_cmp name e.0) refl (found_behind name was front back apart.1)
   where
-    go : (b : Bool) → eq_by_cmp name_cmp name e.0 ≡ b → cond b (Some e.1) (entry_at name_cmp name (front ++ (name, was) ∷ back)) ≡ Some was
-    go true same = absurd (apart.0 (sym (same_name_is name e.0 same)))
-    go false other = found_behind name was front back apart.1
+    go : (b : Bool) → eq_by_cmp name_cmp name e.0 ≡ b → entry_at name_cmp name (front ++ (name, was) ∷ back) ≡ Some was → cond b (Some e.1) (entry_at name_cmp name (front ++ (name, was) ∷ back)) ≡ Some was
+    go true same next = absurd (apart.0 (sym (same_name_is name e.0 same)))
+    go false other next = next
 
 twice : {X : Type 0} (b : Bool) (x y z : X) → cond b x z ≡ cond b x (cond b y z)
 twice true x y z = refl
@@ -127,7 +127,7 @@ module _ (cells : List Cell) (rows : List Row) (i : ℕ) (x : Cell) (y : Row) (l
       ap (λ xs. map cell_entry xs ++ map shown_entry (drop (i + 1) rows)) (taken_more cells i x low x_is)
       ∙ ap (λ es. es ++ map shown_entry (drop (i + 1) rows)) (map-append cell_entry (take i cells) (x ∷ []))
       ∙ append_assoc front (cell_entry x ∷ []) (map shown_entry (drop (i + 1) rows))
-      ∙ ap (λ n. front ++ cell_entry x ∷ map shown_entry (drop n rows)) add-one
+      ∙ ap (λ n. front ++ cell_entry x ∷ map shown_entry (drop n rows)) (add-one i)
 
   pub others_before : AllByRecursion (λ (e : CellEntry). e.0 ≢ x.column) front
   others_before = map_all (λ (e : CellEntry). e.0 ≢ x.column) cell_entry (take i cells) (all_weaker _ _ (λ (c : Cell) below. below_other c.column x.column below) (take i cells) (before_below _ cells i x low x_is rises))

@@ -22,7 +22,7 @@ use std::cmp::Ordering;
 
 /// Whether the name is above the last one.
 fn is_after(name: &str, last: Option<&str>) -> bool
-    ensures { IsTrue result → IfSome last (λ l. name_cmp l.now name.now ≡ Less) }
+    ensures { IsTrue result → IfSome last.entry (λ l. name_cmp l.now name.now ≡ Less) }
 {
     match last {
         Some(last) => match last.cmp(name) {

@@ -21,7 +21,7 @@ loop-cell-preserved c =
     }
 
 pub returns : goal.returns
-returns c yes =
+returns c holds =
     let i = c.loop-cell.cell-index in
     let all = c.args.cells.now in
     subst AreRising (take_all i all (omega (arith, c.loop-cell-test.false))) c.loop-cell.invariant.rising

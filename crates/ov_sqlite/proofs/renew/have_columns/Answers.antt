@@ -1,8 +1,9 @@
-use Rattle.std.proofs.Common.{◌≡◌, ◌<◌, ◌≤◌, length, ap, arith}
+use Rattle.std.proofs.Common.{◌≡◌, ◌<◌, ◌≤◌, length, get_or, ap, sym, ◌∙◌, arith}
 use Rattle.std.proofs.lemmas.List.{take_all}
 use Rattle.sqlite.specs.declared.types.Value.TheVariants.{Text}
 use Rattle.sqlite.specs.Order.{column}
 use Rattle.sqlite_value.specs.Order.{bytes}
+use Rattle.ov_keeper.specs.declared.cell_line.Cell.{Cell}
 use Rattle.ov_sqlite.proofs.PlaceLemmas.{columns_push}
 use Rattle.ov_sqlite.proofs.renew.have_columns.Goals as goal
 
@@ -15,11 +16,12 @@ loop-at-preserved c =
     let x = c.index-cells-at.result in
     let low : i < length cells = c.loop-at-test.true in
     let few : i < length rows = omega (arith, low, c.requires) in
-    let is : column y 0 ≡ Text x.column = rw (c.as_bytes.ensures.value, c.as_str.ensures) at (c.is_text_at.ensures.0 c.if-not-is_text_at.false) in
-    columns_push rows cells i y x few low c.index-rows-at.is c.index-cells-at.is (ap bytes is) c.loop-at.invariant
+    let is : column y 0 ≡ Text (get_or cells i x).column = rw (c.as_bytes.ensures.value, c.as_str.ensures) at (c.is_text_at.ensures.0 c.if-not-is_text_at.false) in
+    columns_push rows cells i y x few low c.index-rows-at.is c.index-cells-at.is
+    (ap bytes is ∙ ap (λ (d : Cell). d.column) (sym c.index-cells-at.is)) c.loop-at.invariant
 
 pub returns : goal.returns
-returns c yes =
+returns c holds =
     let i = c.loop-at.at in
     let rows = c.args.rows.now in
     let cells = c.args.cells.now in
