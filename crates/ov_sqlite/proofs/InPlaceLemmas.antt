@@ -40,6 +40,10 @@ module _ (H after C : List Row) (k : LineKey) (v : List ℕ) (same : IsPermutati
   abbrev lines : CellLines
   lines = cell_lines (map head_of H) (map cell_of C)
 
+  -- the line of a version and the cells of a key
+  abbrev with_cells : LineKey → List ℕ → CellLine
+  with_cells q w = (w, cells_at (map cell_of C) q)
+
   -- which version is found
   versions : (q : LineKey) (rows : List Row) → option_map version_in (option_map (renewed (has_key k) (with_version v)) (find (has_key q) rows)) ≡ option_map (λ r. cond (eq_by_cmp line_cmp k q) v (version_in r)) (find (has_key q) rows)
   versions q [] = refl
@@ -54,7 +58,7 @@ module _ (H after C : List Row) (k : LineKey) (v : List ℕ) (same : IsPermutati
       go true is next = ap Some (of_one (has_key k r) ∙ ap (λ a. cond a v (version_in r)) (two_keys k q r is))
       go false is next = next
 
-  by_version : (q : LineKey) (o : Option Row) → line_at C q o ≡ option_map (λ w. (w, cells_at (map cell_of C) q)) (option_map version_in o)
+  by_version : (q : LineKey) (o : Option Row) → line_at C q o ≡ option_map (with_cells q) (option_map version_in o)
   by_version q None = refl
   by_version q (Some r) = refl
 
@@ -65,25 +69,25 @@ module _ (H after C : List Row) (k : LineKey) (v : List ℕ) (same : IsPermutati
 
   pub version_put : (l : CellLine) → get lines k ≡ Some l → cell_lines (map head_of after) (map cell_of C) ≡ insert lines k (v, l.1)
   version_put l is = same_map key_total key_exact _ _ (λ q.
-      get_lines C after q ∙ by_version q (find (has_key q) after) ∙ ap (option_map (λ w. (w, cells_at (map cell_of C) q))) (found_after q)
+      get_lines C after q ∙ by_version q (find (has_key q) after) ∙ ap (option_map (with_cells q)) (found_after q)
       ∙ at q (eq_by_cmp line_cmp q k) refl ∙ sym (get-insert key_total lines k (v, l.1) q))
     where
       there : (q : LineKey) → q ≡ k → line_at C q (find (has_key q) H) ≡ Some l
       there q e = sym (get_lines C H q) ∙ ap (get lines) e ∙ is
 
-      with_v : (q : LineKey) (o : Option Row) → line_at C q o ≡ Some l → option_map (λ w. (w, cells_at (map cell_of C) q)) (option_map (λ r. v) o) ≡ Some (v, l.1)
+      with_v : (q : LineKey) (o : Option Row) → line_at C q o ≡ Some l → option_map (with_cells q) (option_map (λ r. v) o) ≡ Some (v, l.1)
       with_v q None e = absurd cc
       with_v q (Some r) e = let one : (version_in r, cells_at (map cell_of C) q) ≡ l = cc in ap (λ (p : CellLine). Some (v, p.1)) one
 
-      as_before : (q : LineKey) (o : Option Row) → option_map (λ w. (w, cells_at (map cell_of C) q)) (option_map (λ r. version_in r) o) ≡ line_at C q o
+      as_before : (q : LineKey) (o : Option Row) → option_map (with_cells q) (option_map (λ r. version_in r) o) ≡ line_at C q o
       as_before q None = refl
       as_before q (Some r) = refl
 
       at : (q : LineKey) (b : Bool) → eq_by_cmp line_cmp q k ≡ b
-          → option_map (λ w. (w, cells_at (map cell_of C) q)) (option_map (λ r. cond (eq_by_cmp line_cmp k q) v (version_in r)) (find (has_key q) H)) ≡ cond b (Some (v, l.1)) (get lines q)
-      at q true e = ap (λ a. option_map (λ w. (w, cells_at (map cell_of C) q)) (option_map (λ r. cond a v (version_in r)) (find (has_key q) H))) (turned k q ∙ e) ∙ with_v q (find (has_key q) H) (there q (tied_same q k e))
+          → option_map (with_cells q) (option_map (λ r. cond (eq_by_cmp line_cmp k q) v (version_in r)) (find (has_key q) H)) ≡ cond b (Some (v, l.1)) (get lines q)
+      at q true e = ap (λ a. option_map (with_cells q) (option_map (λ r. cond a v (version_in r)) (find (has_key q) H))) (turned k q ∙ e) ∙ with_v q (find (has_key q) H) (there q (tied_same q k e))
       at q false e =
-          ap (λ a. option_map (λ w. (w, cells_at (map cell_of C) q)) (option_map (λ r. cond a v (version_in r)) (find (has_key q) H))) (turned k q ∙ e)
+          ap (λ a. option_map (with_cells q) (option_map (λ r. cond a v (version_in r)) (find (has_key q) H))) (turned k q ∙ e)
           ∙ as_before q (find (has_key q) H) ∙ sym (get_lines C H q)
 
 -- ---- a cell with another body
@@ -231,11 +235,11 @@ any_found p (r ∷ rows) h = go (p r) (any_found p rows) h
 -- a key that a cell has, has a head
 head_of_any : (H C : List Row) (k : LineKey) → AllByRecursion (HasHead H) C → list_any (has_key k) C ≡ true → list_any (has_key k) H ≡ true
 head_of_any H [] k all h = absurd cc
-head_of_any H (c ∷ C) k all h = go (has_key k c) refl h
+head_of_any H (c ∷ C) k all h = go (has_key k c) refl (head_of_any H C k all.1) h
   where
-    go : (b : Bool) → has_key k c ≡ b → (b || list_any (has_key k) C) ≡ true → list_any (has_key k) H ≡ true
-    go true is e = subst (λ q. list_any (has_key q) H ≡ true) (sym (keyed k c is)) all.0
-    go false is e = head_of_any H C k all.1 e
+    go : (b : Bool) → has_key k c ≡ b → (list_any (has_key k) C ≡ true → list_any (has_key k) H ≡ true) → (b || list_any (has_key k) C) ≡ true → list_any (has_key k) H ≡ true
+    go true is later e = subst (λ q. list_any (has_key q) H ≡ true) (sym (keyed k c is)) all.0
+    go false is later e = later e
 
 -- the cells of a row that were read are those that the map has
 pub row_read : (text : List ℕ) (db : Database) → HoldsCells text db → (k : LineKey) (rows : List Row) → IsPermutation (map cell_selected (with_key k (rows_of_cell db.trees))) rows → HasRead k rows (stored_cells db.trees)
