@@ -1,4 +1,3 @@
-
 use json::Writer;
 use ov_atoms::{
     Atom, AtomFault, AtomKind, Datum, Kinds, Names, NoNames, has_sixteen_bytes, is_id, put_datum,
