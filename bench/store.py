@@ -43,6 +43,7 @@ TABLES = (
 )
 
 FOUR_CELLS = "INSERT INTO cell(tbl,id,col,body) VALUES(?1,?2,?3,?4),(?1,?2,?5,?6),(?1,?2,?7,?8),(?1,?2,?9,?10)"
+CELLS_OF = "SELECT col,body FROM cell WHERE tbl=?1 AND id=?2"
 
 
 def switch(number, load):
@@ -99,13 +100,21 @@ class Peer:
             try:
                 run("INSERT INTO head(tbl,id,ver) VALUES(?1,?2,?3)", head)
             except sqlite3.IntegrityError:
-                run("DELETE FROM cell WHERE tbl=?1 AND id=?2", head[:2])
-                run("DELETE FROM head WHERE tbl=?1 AND id=?2", head[:2])
-                run("INSERT INTO head(tbl,id,ver) VALUES(?1,?2,?3)", head)
+                self.update(head, cells)
+                continue
             columns = [part for cell in cells for part in cell[2:]]
             run(FOUR_CELLS, (*head[:2], *columns))
         run("COMMIT")
         return time.perf_counter_ns() - start
+
+    def update(self, head, cells):
+        """Changes a row of the same columns in place."""
+        run = self.connection.execute
+        bodies = dict(run(CELLS_OF, head[:2]).fetchall())
+        run("UPDATE head SET ver=?3 WHERE tbl=?1 AND id=?2", head)
+        for *key, body in cells:
+            if bodies[key[2]] != body:
+                run("UPDATE cell SET body=?4 WHERE tbl=?1 AND id=?2 AND col=?3", (*key, body))
 
     def add(self, count):
         rows = [switch(number, 0) for number in range(self.rows, self.rows + count)]
