@@ -98,6 +98,7 @@ impl Bench {
         let each = |value: fn(&Measured) -> f64| self.present().into_iter().zip(&all).map(move |(s, m)| (s, value(m)));
         figures_of("insert", &name, &each(Measured::rate).collect::<Vec<_>>(), "per second")?;
         figures_of("insert", &name, &each(Measured::median).collect::<Vec<_>>(), "us")?;
+        figures_of("p99 of an insert", &name, &each(|measured| measured.quantile(0.99)).collect::<Vec<_>>(), "us")?;
         Ok(resident)
     }
 

@@ -1,11 +1,13 @@
 #!/usr/bin/env python3
-"""What rows of OVN's northbound schema take in memory, in this server and beside it in ovsdb-server, each with a file.
+"""What rows take in memory, in this server and beside it in ovsdb-server, each with a file: wide ones, of OVN's northbound
+schema, and narrow ones, of four columns.
 
-    bench/northbound.py PROGRAM FOLDER [ROWS]
+    bench/northbound.py PROGRAM FOLDER [ROWS [NARROW]]
 
 Each server gets switches of 100 ports, one transaction a switch, 40,000 ports if ROWS is left out. A port has a name, one
-address, `up` and one pair in `external_ids`; its other columns keep their defaults. It prints the resident memory, in
-megabytes, of a server with an empty database, of one that took the rows, and of one that was started over them. Debian's
+address, `up` and one pair in `external_ids`; its other columns keep their defaults. Then, over new files, it gets 100 rows of
+four columns a transaction, 100,000 if NARROW is left out. It prints the resident memory, in megabytes, of a server with an
+empty database, of one that took the rows, of one that was started over them, and the most that this start took. Debian's
 `ovn-common` has the schema, `openvswitch-common` the peer. FOLDER is for the files, which are removed at the end.
 """
 import json
@@ -16,7 +18,22 @@ import subprocess
 import sys
 import time
 
-SCHEMA = "/usr/share/ovn/ovn-nb.ovsschema"
+WIDE = "/usr/share/ovn/ovn-nb.ovsschema"
+NARROW = {
+    "name": "OVN_Northbound",
+    "version": "1.0.0",
+    "tables": {
+        "Logical_Switch_Port": {
+            "columns": {
+                "name": {"type": "string"},
+                "tag": {"type": {"key": "integer", "min": 0, "max": 1}},
+                "up": {"type": "boolean"},
+                "cost": {"type": "integer"},
+            },
+            "isRoot": True,
+        }
+    },
+}
 PORTS = 100
 # The C library's memory, as the packaged unit sets it.
 MEMORY = "glibc.malloc.hugetlb=1:glibc.malloc.mmap_threshold=4194304:glibc.malloc.trim_threshold=8388608"
@@ -61,17 +78,25 @@ def switch(at):
     return operations
 
 
-def resident(process):
-    """The resident memory of the process, in megabytes."""
+def narrow(at):
+    """The operations that insert rows of four columns."""
+    ports = range(at * PORTS, (at + 1) * PORTS)
+    rows = ({"name": f"port{port}", "tag": port % 4096, "up": True, "cost": port} for port in ports)
+    return [{"op": "insert", "table": "Logical_Switch_Port", "row": row} for row in rows]
+
+
+def resident(process, which="VmRSS"):
+    """The resident memory of the process, in megabytes; of VmHWM the most that it had."""
     with open(f"/proc/{process.pid}/status") as file:
-        line = next(it for it in file if it.startswith("VmRSS"))
+        line = next(it for it in file if it.startswith(which))
     return int(line.split()[1]) / 1024
 
 
-def start(command, port):
-    """A server that answers."""
-    process = subprocess.Popen(command, env={**os.environ, "GLIBC_TUNABLES": MEMORY}, stderr=subprocess.DEVNULL,
-                               stdin=subprocess.DEVNULL, stdout=subprocess.DEVNULL)
+def start(command, port, errors=os.devnull):
+    """A server that answers, with its standard error in a file."""
+    with open(errors, "w") as file:
+        process = subprocess.Popen(command, env={**os.environ, "GLIBC_TUNABLES": MEMORY}, stderr=file,
+                                   stdin=subprocess.DEVNULL, stdout=subprocess.DEVNULL)
     while process.poll() is None:
         try:
             ask(port, "list_dbs", [])
@@ -92,38 +117,50 @@ def stop(process):
     process.wait()
 
 
-def measure(command, port, rows):
-    """The memory of an empty server, of the same with the rows, and of one that is started over them."""
+def measure(command, port, rows, operations):
+    """The memory of an empty server, of the same with the rows, and of one that is started over them, now and at its most."""
     server = start(command, port)
     figures = [resident(server)]
     for at in range(rows // PORTS):
-        answer = ask(port, "transact", ["OVN_Northbound", *switch(at)])
+        answer = ask(port, "transact", ["OVN_Northbound", *operations(at)])
         if any("error" in it for it in answer["result"]):
             sys.exit(f"refused: {answer['result'][-1]}")
     figures.append(resident(server))
     stop(server)
     server = start(command, port)
-    figures.append(resident(server))
+    figures += [resident(server), resident(server, "VmHWM")]
     if count(port) != rows:
         sys.exit("rows are missing")
     stop(server)
     return figures
 
 
-def main():
-    program, folder = sys.argv[1:3]
-    rows = int(sys.argv[3]) if len(sys.argv) > 3 else 40_000
-    os.makedirs(folder)
+def compare(program, folder, schema, rows, operations):
+    """Measures both servers, over new files in a folder that is removed at the end, and prints a line for each."""
     ours, peer = free_port(), free_port()
-    subprocess.run(["ovsdb-tool", "create", f"{folder}/peer.db", SCHEMA], check=True)
+    subprocess.run(["ovsdb-tool", "create", f"{folder}/peer.db", schema], check=True)
     commands = {
-        "ours": ([program, "--schema", SCHEMA, "--db", f"{folder}/ours.db", "--listen", f"127.0.0.1:{ours}"], ours),
+        "ours": ([program, "--schema", schema, "--db", f"{folder}/ours.db", "--listen", f"127.0.0.1:{ours}"], ours),
         "ovsdb-server": (["ovsdb-server", f"--unixctl={folder}/control", f"--remote=ptcp:{peer}:127.0.0.1", f"{folder}/peer.db"], peer),
     }
-    print(f"MB with {rows:,} ports: empty, filled, started over them")
     for name, (command, port) in commands.items():
-        print(f"{name}: " + ", ".join(f"{it:.1f}" for it in measure(command, port, rows)), flush=True)
+        figures = measure(command, port, rows, operations)
+        print(f"{name}: " + ", ".join(f"{it:.1f}" for it in figures), flush=True)
     shutil.rmtree(folder)
 
 
-main()
+def main():
+    program, folder, *counts = sys.argv[1:]
+    wide, few = [int(it) for it in counts] + [40_000, 100_000][len(counts):]
+    os.makedirs(folder)
+    print(f"MB with {wide:,} ports: empty, filled, started over them, at the most of that start")
+    compare(program, folder, WIDE, wide, switch)
+    os.makedirs(folder)
+    with open(f"{folder}/schema", "w") as file:
+        json.dump(NARROW, file)
+    print(f"MB with {few:,} rows of four columns: the same")
+    compare(program, folder, f"{folder}/schema", few, narrow)
+
+
+if __name__ == "__main__":
+    main()
