@@ -3,12 +3,12 @@
 
     bench/columns.py PROGRAM FOLDER [ROWS]
 
-For each kind a server with a file gets a table with a name and eight columns of that kind, and ROWS rows of it, 100,000 if left
+For each kind a server with a file gets a table with a name and eight columns of that kind, and ROWS rows of it, 40,000 if left
 out, 500 in a transaction. It asks the C library, by gdb (`malloc_stats`), how many bytes are in use, before 4,096 echoes have
 taken the place of these transactions in the history and after that. It prints the bytes of a value: what is in use afterwards,
 less what is with rows of a name alone, by the rows and the eight columns; then those that the history held for it. A reference
-is to the row before, so it is a value and a link; each index has one column, so it is a value and an entry. With fewer rows the
-file is smaller than the pages that stay in memory, and those would count. FOLDER is for the files, which are removed at the end.
+is to the row before, so it is a value and a link; each index has one column, so it is a value and an entry. FOLDER is for the
+files, which are removed at the end.
 """
 import json
 import os
@@ -95,7 +95,7 @@ def measure(program, folder, rows, kind):
 
 def main():
     program, folder = sys.argv[1:3]
-    rows = int(sys.argv[3]) if len(sys.argv) > 3 else 100_000
+    rows = int(sys.argv[3]) if len(sys.argv) > 3 else 40_000
     alone = measure(program, folder, rows, (None, None, False))
     print(f"bytes of a row with a name alone, and in the history: {alone[1] / rows:.0f}, {(alone[0] - alone[1]) / rows:.0f}", flush=True)
     print(f"resident beyond what is in use, MB: {(alone[2] - alone[1]) / 1024 / 1024:.1f}", flush=True)
