@@ -33,7 +33,7 @@ fn text_of_number(alloc: Global, row: &Row) -> Result<String, Fail> {
     }
 }
 
-/// The numbers of the cells.
+/// The numbers of the cells, in the order in which SQLite finds them: that of their keys.
 fn numbers<S: Alter + Drop>(alloc: Global, connection: &mut Connection<S>) -> Result<String, Fail>
     requires { connection.old.in_transaction ≡ false }
 {
@@ -72,5 +72,5 @@ fn a_cell_is_changed_in_its_place(rt: HostRuntime) -> Result<(), Fail> {
 
 #[test]
 fn a_row_of_other_columns_is_replaced(rt: HostRuntime) -> Result<(), Fail> {
-    are_numbered(rt.alloc(), REPLACED, "3;4;5;6;")
+    are_numbered(rt.alloc(), REPLACED, "5;6;3;4;")
 }
