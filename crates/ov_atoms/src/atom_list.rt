@@ -24,13 +24,13 @@ impl Model for AtomList {
     ghost use Rattle.std.specs.Coded.{coded_list};
     ghost use Rattle.ov_specs.specs.codes.ValueCode.{atom_code};
     ghost use Rattle.ov_specs.specs.values.Value as value;
-    ghost use Rattle.ov_atoms.specs.Stored.{atoms_in};
+    ghost use Rattle.ov_atoms.specs.Stored.{atoms_stored};
 
     ghost Value = { List value.Atom };
 
     ghost coded = { coded_list atom_code };
 
-    ghost view = { λ l. atoms_in l.stored };
+    ghost view = { λ l. atoms_stored l.stored };
 }
 
 impl Drop for AtomList {

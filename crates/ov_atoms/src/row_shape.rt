@@ -5,8 +5,8 @@ use std::alloc::{AllocError, Global};
 use std::marker::Model;
 use std::sync::Arc;
 
-/// What all rows of a table share: the names of their columns, ascending, and the default value of each. Where there are no
-/// defaults, the list of them is empty.
+/// What all rows of a table share: the names of their columns, ascending, and the default value of each. A row with
+/// names of its own has no defaults: the list of them is empty.
 #[derive(Drop)]
 pub struct RowShape {
     parts: Arc<Parts>,

@@ -6,7 +6,7 @@ use Rattle.std.specs.Ordering.{is_eq}
 use Rattle.std.specs.Cmp.{eq_by_cmp_equiv}
 use Rattle.std.specs.FinMap.{find, contains_key, keys, entries, entries_sorted, get-entries, contains_key-keys}
 use Rattle.ov_specs.specs.operations.Conditions as conditions
-use Rattle.ov_specs.specs.operations.Conditions.{Function, has_pair, number_in}
+use Rattle.ov_specs.specs.operations.Conditions.{has_pair, number_in}
 use Rattle.ov_specs.specs.rows.Database.{same_atom, same_pair, same_datum}
 use Rattle.ov_specs.specs.values.Value.{Atom, Uuid, atom_cmp, AtomSet, AtomMap, Datum, Atoms, Pairs}
 use Rattle.ov_specs.specs.rows.Database.{one_uuid}
@@ -14,7 +14,7 @@ use Rattle.ov_specs.proofs.laws.Clashing.{same-is}
 use Rattle.ov_specs.proofs.laws.Order.{atom_cmp_total}
 use Rattle.ov_specs.proofs.laws.ReadingBack.{keys-set_of}
 use Rattle.ov_conds.specs.Compared as compared
-use Rattle.ov_conds.specs.Compared.{elements_of, number_of, are_same}
+use Rattle.ov_conds.specs.Compared.{elements_of, number_of, are_same, lists_include, lists_exclude}
 use Rattle.ov_conds.specs.Walks.{includes_atoms, includes_pairs, excludes_atoms, excludes_pairs}
 use Rattle.ov_conds.proofs.WalkLemmas.{below, ascends, none-below, walk-all, keys-ascend, entries-ascend}
 use Rattle.ov_specs.proofs.laws.Truths.{or_nothing, left_holds, right_holds}
@@ -84,38 +84,30 @@ excludes_pairs-entries m v =
 
 -- ---- values
 
-number_of-elements_of : (d : Datum) → number_of (elements_of d) ≡ number_in d
+pub number_of-elements_of : (d : Datum) → number_of (elements_of d) ≡ number_in d
 number_of-elements_of (Atoms s) = refl
 number_of-elements_of (Pairs m) = refl
 
-are_same-elements_of : (d v : Datum) → are_same (elements_of d) (elements_of v) ≡ same_datum d v
+pub are_same-elements_of : (d v : Datum) → are_same (elements_of d) (elements_of v) ≡ same_datum d v
 are_same-elements_of (Atoms s) (Atoms v) = refl
 are_same-elements_of (Atoms s) (Pairs v) = refl
 are_same-elements_of (Pairs m) (Atoms v) = refl
 are_same-elements_of (Pairs m) (Pairs v) = refl
 
-includes-elements_of : (d v : Datum) → compared.includes (elements_of d) (elements_of v) ≡ conditions.includes d v
-includes-elements_of (Atoms s) (Atoms v) = includes_atoms-keys s v
-includes-elements_of (Atoms s) (Pairs v) = refl
-includes-elements_of (Pairs m) (Atoms v) = refl
-includes-elements_of (Pairs m) (Pairs v) = includes_pairs-entries m v
+pub lists_include-elements_of : (d v : Datum) → lists_include (elements_of d) (elements_of v) ≡ conditions.includes d v
+lists_include-elements_of (Atoms s) (Atoms v) = includes_atoms-keys s v
+lists_include-elements_of (Atoms s) (Pairs v) = refl
+lists_include-elements_of (Pairs m) (Atoms v) = refl
+lists_include-elements_of (Pairs m) (Pairs v) = includes_pairs-entries m v
 
-excludes-elements_of : (d v : Datum) → compared.excludes (elements_of d) (elements_of v) ≡ conditions.excludes d v
-excludes-elements_of (Atoms s) (Atoms v) = excludes_atoms-keys s v
-excludes-elements_of (Atoms s) (Pairs v) = refl
-excludes-elements_of (Pairs m) (Atoms v) = refl
-excludes-elements_of (Pairs m) (Pairs v) = excludes_pairs-entries m v
+pub lists_exclude-elements_of : (d v : Datum) → lists_exclude (elements_of d) (elements_of v) ≡ conditions.excludes d v
+lists_exclude-elements_of (Atoms s) (Atoms v) = excludes_atoms-keys s v
+lists_exclude-elements_of (Atoms s) (Pairs v) = refl
+lists_exclude-elements_of (Pairs m) (Atoms v) = refl
+lists_exclude-elements_of (Pairs m) (Pairs v) = excludes_pairs-entries m v
 
--- a column is compared with a value as their lists are
-pub compares-elements_of : (f : Function) (d v : Datum) → compared.compares f (elements_of d) (elements_of v) ≡ conditions.compares f d v
-compares-elements_of conditions.Less d v = rw (number_of-elements_of d, number_of-elements_of v) refl
-compares-elements_of conditions.LessOrEqual d v = rw (number_of-elements_of d, number_of-elements_of v) refl
-compares-elements_of conditions.Greater d v = rw (number_of-elements_of d, number_of-elements_of v) refl
-compares-elements_of conditions.GreaterOrEqual d v = rw (number_of-elements_of d, number_of-elements_of v) refl
-compares-elements_of conditions.Equal d v = are_same-elements_of d v
-compares-elements_of conditions.NotEqual d v = ap not (are_same-elements_of d v)
-compares-elements_of conditions.Includes d v = includes-elements_of d v
-compares-elements_of conditions.Excludes d v = excludes-elements_of d v
+-- values are compared as their elements are
+pub ruleset by_elements = (number_of-elements_of, are_same-elements_of, lists_include-elements_of, lists_exclude-elements_of)
 
 -- an identifier is a set of one
 pub elements_of-one_uuid : (id : List ℕ) → compared.Atoms (Uuid id ∷ []) ≡ elements_of (one_uuid id)

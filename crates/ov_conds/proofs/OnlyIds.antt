@@ -10,7 +10,7 @@ use Rattle.ov_specs.specs.values.Value.{Integer, Boolean, Text, Uuid, Datum}
 use Rattle.ov_specs.proofs.laws.Clashing.{same-is}
 use Rattle.ov_conds.specs.Compared.{Elements, Atoms, Pairs, elements_of, are_same, uuid_of}
 use Rattle.ov_conds.specs.OnlyId.{IsOnlyOf, equal_uuid, only_id}
-use Rattle.ov_conds.proofs.CompareLemmas.{compares-elements_of, elements_of-one_uuid}
+use Rattle.ov_conds.proofs.CompareLemmas.{are_same-elements_of, elements_of-one_uuid}
 
 same_uuid : (a b id : Identifier) → Uuid a ≡ Uuid b → Some b ≡ Some id → a ≡ id
 same_uuid a b id e f = cc
@@ -36,7 +36,7 @@ equal_uuid-is NotEqual v id key is met = cc
 equal_uuid-is Includes v id key is met = cc
 equal_uuid-is Excludes v id key is met = cc
 equal_uuid-is Equal v id key is met =
-    are_same-lone id key (elements_of v) is (ap (λ e. are_same e (elements_of v)) (elements_of-one_uuid key) ∙ compares-elements_of Equal (one_uuid key) v ∙ met)
+    are_same-lone id key (elements_of v) is (ap (λ e. are_same e (elements_of v)) (elements_of-one_uuid key) ∙ are_same-elements_of (one_uuid key) v ∙ met)
 
 -- what `_uuid` is to be equal to is the identifier of each row that meets the condition
 only_id-is : (c : Condition) (id : Identifier) → only_id c ≡ Some id → IsOnlyOf id c

@@ -1,8 +1,8 @@
 -- How values are compared, by the ascending lists of their elements.
-use Rattle.std.specs.Prelude.{ℤ, int_lt, int_le, not, List, [], ◌∷◌, Bool, true, false, Option, Some, None}
+use Rattle.std.specs.Prelude.{ℤ, List, [], ◌∷◌, Bool, true, false, Option, Some, None}
 use Rattle.std.specs.Cmp.Lexicographic.{pointwise}
 use Rattle.std.specs.FinMap.{keys, entries}
-use Rattle.ov_specs.specs.operations.Conditions.{Function, Less, LessOrEqual, Greater, GreaterOrEqual, Equal, NotEqual, Includes, Excludes, lone_integer, are_numbers_so}
+use Rattle.ov_specs.specs.operations.Conditions.{lone_integer}
 use Rattle.ov_specs.specs.rows.Database.{same_atom, same_pair}
 use Rattle.ov_specs.specs.values.Uuid.{Uuid}
 use Rattle.ov_specs.specs.values.Value as value
@@ -34,31 +34,20 @@ abbrev pub uuid_of : Elements → Option Uuid
 uuid_of (Atoms atoms) = lone_uuid atoms
 uuid_of (Pairs pairs) = None
 
--- the same set or map
+-- the same elements; `same_datum` says it of values
 abbrev pub are_same : Elements → Elements → Bool
 are_same (Atoms a) (Atoms b) = pointwise same_atom a b
 are_same (Pairs a) (Pairs b) = pointwise same_pair a b
 are_same a b = false
 
--- all of the value is in the column
-abbrev pub includes : Elements → Elements → Bool
-includes (Atoms column) (Atoms value) = includes_atoms column value
-includes (Pairs column) (Pairs value) = includes_pairs column value
-includes column value = false
+-- all elements of the value are among those of the column; `includes` says it of values
+abbrev pub lists_include : Elements → Elements → Bool
+lists_include (Atoms column) (Atoms value) = includes_atoms column value
+lists_include (Pairs column) (Pairs value) = includes_pairs column value
+lists_include column value = false
 
--- nothing of the value is in the column
-abbrev pub excludes : Elements → Elements → Bool
-excludes (Atoms column) (Atoms value) = excludes_atoms column value
-excludes (Pairs column) (Pairs value) = excludes_pairs column value
-excludes column value = true
-
--- the column stands in this relation to the value
-abbrev pub compares : Function → Elements → Elements → Bool
-compares Less column value = are_numbers_so int_lt (number_of column) (number_of value)
-compares LessOrEqual column value = are_numbers_so int_le (number_of column) (number_of value)
-compares Greater column value = are_numbers_so int_lt (number_of value) (number_of column)
-compares GreaterOrEqual column value = are_numbers_so int_le (number_of value) (number_of column)
-compares Equal column value = are_same column value
-compares NotEqual column value = not (are_same column value)
-compares Includes column value = includes column value
-compares Excludes column value = excludes column value
+-- no element of the value is among those of the column; `excludes` says it of values
+abbrev pub lists_exclude : Elements → Elements → Bool
+lists_exclude (Atoms column) (Atoms value) = excludes_atoms column value
+lists_exclude (Pairs column) (Pairs value) = excludes_pairs column value
+lists_exclude column value = true

@@ -1,9 +1,10 @@
 ghost use Rattle.std.specs.Prelude.{◌≡◌, int_lt, int_le};
 ghost use Rattle.std.specs.Cmp.Lexicographic.{pointwise};
 ghost use Rattle.ov_atoms.specs.Views.{atoms_view, pairs_view};
-ghost use Rattle.ov_specs.specs.operations.Conditions.{are_numbers_so};
+ghost use Rattle.ov_specs.specs.operations.Conditions.{are_numbers_so, compares};
 ghost use Rattle.ov_specs.specs.rows.Database.{same_atom, same_pair};
-ghost use Rattle.ov_conds.specs.Compared as compared;
+ghost use Rattle.ov_specs.specs.values.Value.{Datum};
+ghost use Rattle.ov_conds.specs.Compared.{elements_of, are_same, lists_include, lists_exclude};
 ghost use Rattle.ov_conds.specs.ElementViews.{elements_view};
 ghost use Rattle.ov_conds.specs.Views.{function_view};
 
@@ -45,8 +46,7 @@ fn are_pairs(first: &[(Atom, Atom)], second: &[(Atom, Atom)]) -> bool
 impl Elements<'_> {
     /// Whether both are the same set or map.
     fn is_same(self, other: Elements<'_>) -> bool
-        ensures { result
-            ≡ compared.are_same (elements_view self.entry) (elements_view other.entry) }
+        ensures { result ≡ are_same (elements_view self.entry) (elements_view other.entry) }
     {
         match (self, other) {
             (Elements::Atoms(atoms), Elements::Atoms(others)) => are_atoms(atoms, others),
@@ -57,8 +57,7 @@ impl Elements<'_> {
 
     /// Whether everything in the value is here.
     fn includes(self, value: Elements<'_>) -> bool
-        ensures { result
-            ≡ compared.includes (elements_view self.entry) (elements_view value.entry) }
+        ensures { result ≡ lists_include (elements_view self.entry) (elements_view value.entry) }
     {
         match (self, value) {
             (Elements::Atoms(column), Elements::Atoms(value)) => includes_atoms(column, value),
@@ -69,8 +68,7 @@ impl Elements<'_> {
 
     /// Whether nothing in the value is here.
     fn excludes(self, value: Elements<'_>) -> bool
-        ensures { result
-            ≡ compared.excludes (elements_view self.entry) (elements_view value.entry) }
+        ensures { result ≡ lists_exclude (elements_view self.entry) (elements_view value.entry) }
     {
         match (self, value) {
             (Elements::Atoms(column), Elements::Atoms(value)) => excludes_atoms(column, value),
@@ -82,10 +80,11 @@ impl Elements<'_> {
 
 impl Function {
     /// Whether a column with these contents stands in this relation to the value (RFC 7047, 5.1, `<function>`).
+    #[tactic(auto, using(crate::proofs::CompareLemmas::by_elements))]
     pub(crate) fn compares(self, column: Elements<'_>, value: Elements<'_>) -> bool
-        ensures { result
-            ≡ compared.compares (function_view self) (elements_view column.entry)
-            (elements_view value.entry) }
+        ensures { (d v : Datum) → elements_view column.entry ≡ elements_of d
+            → elements_view value.entry ≡ elements_of v
+            → result ≡ compares (function_view self) d v }
     {
         match self {
             Function::Less => is_below(column.number(), value.number()),

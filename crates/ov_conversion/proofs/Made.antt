@@ -11,7 +11,7 @@ use Rattle.ov_specs.specs.values.Uuid.{Uuid}
 use Rattle.ov_specs.proofs.laws.FoundRows.{EachRow}
 use Rattle.ov_specs.proofs.laws.LineKeys.{key_total, key_exact, tied_same}
 use Rattle.ov_conversion.specs.Making.{with_row, with_rows, keyed}
-use Rattle.ov_conversion.specs.Tables.{carried_at, carried_of}
+use Rattle.ov_conversion.specs.Carrying.{carried_at, carried_of}
 use Rattle.ov_conversion.proofs.KeyedRows.{each_row}
 
 -- with what is made of each of these keys
@@ -119,7 +119,7 @@ module _ (old new : Schema) (version : Uuid) (before : Database) where
   kept-keyed r = by (get old.tables r.0.0) (get new.tables r.0.0)
     where
       by : (a b : Option Table) → option_and_then (λ from. option_map (λ to. carried_row from to version before r) b) a
-          ≡ option_map (λ row. (r.0, row)) (option_and_then (λ from. option_map (λ to. (carried_row from to version before r).1) b) a)
+          ≡ option_map (λ row. (r.0, row)) (option_map (λ (kept : LineKey × Row). kept.1) (option_and_then (λ from. option_map (λ to. carried_row from to version before r) b) a))
       by None b = refl
       by (Some from) None = refl
       by (Some from) (Some to) = refl

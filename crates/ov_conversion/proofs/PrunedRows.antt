@@ -126,7 +126,7 @@ module _ (schema : Schema) (before : Database) (version : Uuid) (rows : Database
       ∙ by q (get rows q) ∙ sym (get-pruned schema before version rows q))
     where
       in_row : (q : LineKey) (row : Row) (b : Bool) (other : Row)
-          → or_rows (cond b (Some other) None) (Some row) ≡ Some (cond b other row)
+          → or_rows (cond b (Some (cond b other row)) None) (Some row) ≡ Some (cond b other row)
       in_row q row true other = refl
       in_row q row false other = refl
 

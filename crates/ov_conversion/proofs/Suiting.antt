@@ -9,7 +9,7 @@ use Rattle.std.specs.FinMap.Entries.{find-where_key}
 use Rattle.std.specs.List.{list_any}
 use Rattle.std.specs.Ordering.{eq_by_cmp}
 use Rattle.std.specs.Str.{bytes_eq}
-use Rattle.ov_specs.specs.conversion.Carried.{carried_value, carried_columns, carried}
+use Rattle.ov_specs.specs.conversion.Carried.{carried_value, carried_columns, carried_row, carried}
 use Rattle.ov_specs.specs.conversion.Converted.{is_of_changed_type, has_changed_type, lacks_default, has_row, gets_unfit_default}
 use Rattle.ov_specs.specs.integrity.Committed.{pruned_columns, dangles, pruned_row, pruned}
 use Rattle.ov_specs.specs.integrity.Kept.{kept}
@@ -32,7 +32,7 @@ use Rattle.ov_specs.proofs.laws.Names.{name_cmp_total, name_exact, same_name-is}
 use Rattle.ov_specs.proofs.laws.Pruning.{find-anew, find-none, pruned_columns_suit, get-pruned}
 use Rattle.ov_specs.proofs.laws.SchemaLaws.{default_is_of}
 use Rattle.ov_specs.proofs.laws.Suiting.{version_suits}
-use Rattle.ov_conversion.specs.Tables.{carried_at, carried_of}
+use Rattle.ov_conversion.specs.Carrying.{carried_at, carried_of}
 use Rattle.ov_conversion.proofs.Made.{or_rows, get-with_made, is_among-keys, carried-made}
 
 was_so : (b : Bool) → not b ≡ false → b ≡ true
@@ -131,7 +131,7 @@ module _ (old new : Schema) (version : Uuid) (before : Database) where
           (sym (get-entries new.tables key.0) ∙ is_new)
 
       by_tables : (former : Row) → get before key ≡ Some former → (a b : Option Table) → get old.tables key.0 ≡ a → get new.tables key.0 ≡ b
-          → option_and_then (λ from. option_map (λ to. row_now before version key (carried_columns from to former.columns)) b) a ≡ Some row → SuitsRow new key row
+          → option_map (λ (kept : LineKey × Row). kept.1) (option_and_then (λ from. option_map (λ to. carried_row from to version before (key, former)) b) a) ≡ Some row → SuitsRow new key row
       by_tables former stands None b is_old is_new made = cc
       by_tables former stands (Some from) None is_old is_new made = cc
       by_tables former stands (Some from) (Some to) is_old is_new made =

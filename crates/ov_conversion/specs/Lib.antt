@@ -1,4 +1,4 @@
-pub mod Tables
+pub mod Carrying
 pub mod Making
 pub mod Support
 pub mod Pruning

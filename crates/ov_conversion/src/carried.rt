@@ -1,6 +1,6 @@
 ghost use Rattle.std.specs.Prelude.{◌≡◌, IfOk, OnOk};
 ghost use Rattle.ov_conversion.specs.Making.{with_row};
-ghost use Rattle.ov_conversion.specs.Tables.{carried_at, carried_of};
+ghost use Rattle.ov_conversion.specs.Carrying.{carried_at, carried_of};
 ghost use Rattle.ov_specs.specs.conversion.Carried as spec;
 ghost use Rattle.ov_specs.specs.rows.Version.{row_now};
 

@@ -1,10 +1,9 @@
-ghost use Rattle.std.specs.Prelude.{◌≡◌, not, filter, IfOk};
+ghost use Rattle.std.specs.Prelude.{◌≡◌, ◌&&◌, not, filter, IfOk};
 ghost use Rattle.std.specs.FinMap.{get};
 ghost use Rattle.std.specs.List.{list_any};
-ghost use Rattle.ov_conversion.specs.Tables.{gets_unfit_column};
 ghost use Rattle.ov_specs.specs.conversion.Converted as spec;
 ghost use Rattle.ov_specs.specs.conversion.Converted.{has_row, lacks_default};
-ghost use Rattle.ov_specs.specs.rows.RowNames.{is_own_column};
+ghost use Rattle.ov_specs.specs.rows.RowNames.{is_own_column, row_columns};
 ghost use Rattle.ov_specs.specs.schema.Schema.{is_some_and};
 
 use ov_base::Text;
@@ -51,26 +50,7 @@ fn has_row(rows: &Rows, name: &str) -> bool
     }
 }
 
-/// Whether the table has a row, and gets a column whose default does not fit it.
-fn gets_unfit_column(
-    alloc: Global,
-    old: &Schema,
-    rows: &Rows,
-    name: &str,
-    table: &Table,
-) -> Result<bool, AllocError>
-    ensures { IfOk result (λ gets. gets ≡ gets_unfit_column old.now rows.now name.now table.now) }
-{
-    if !has_row(rows, name) {
-        return Ok(false);
-    }
-    match old.table(name) {
-        Some(former) => is_any_unfit(alloc, former, table.columns()),
-        None => Ok(false),
-    }
-}
-
-/// Whether the new schema has the table of this name, which has a row and gets such a column.
+/// Whether both schemas have the table of this name, and it has a row and gets a column whose default does not fit it.
 fn is_unfit_table(
     alloc: Global,
     old: &Schema,
@@ -79,33 +59,20 @@ fn is_unfit_table(
     name: &str,
 ) -> Result<bool, AllocError>
     ensures { IfOk result (λ gets. gets
-        ≡ is_some_and (gets_unfit_column old.now rows.now name.now) (get new.now.tables name.now)) }
+        ≡ is_some_and (λ table. has_row rows.now name.now && is_some_and
+        (λ former. list_any (lacks_default former) (row_columns table))
+        (get old.now.tables name.now)) (get new.now.tables name.now)) }
 {
-    match new.table(name) {
-        Some(table) => gets_unfit_column(alloc, old, rows, name, table),
+    let Some(table) = new.table(name) else {
+        return Ok(false);
+    };
+    if !has_row(rows, name) {
+        return Ok(false);
+    }
+    match old.table(name) {
+        Some(former) => is_any_unfit(alloc, former, table.columns()),
         None => Ok(false),
     }
-}
-
-/// Whether one of these tables is such a table.
-fn is_any_unfit_table(
-    alloc: Global,
-    old: &Schema,
-    new: &Schema,
-    rows: &Rows,
-    tables: &[(Text, Table)],
-) -> Result<bool, AllocError>
-    ensures { IfOk result (λ gets. gets
-        ≡ list_any
-        (λ t. is_some_and (gets_unfit_column old.now rows.now t.0) (get new.now.tables t.0))
-        tables.now) }
-{
-    for (name, _table) in tables {
-        if is_unfit_table(alloc, old, new, rows, name.as_str())? {
-            return Ok(true);
-        }
-    }
-    Ok(false)
 }
 
 /// Whether a table that has a row gets a column whose default does not fit it (RFC 7047, 5.2.1).
@@ -117,5 +84,10 @@ pub(crate) fn gets_unfit_default(
 ) -> Result<bool, AllocError>
     ensures { IfOk result (λ gets. gets ≡ spec.gets_unfit_default old.now new.now rows.now) }
 {
-    is_any_unfit_table(alloc, old, new, rows, new.tables())
+    for (name, _table) in new.tables() {
+        if is_unfit_table(alloc, old, new, rows, name.as_str())? {
+            return Ok(true);
+        }
+    }
+    Ok(false)
 }

@@ -2,10 +2,9 @@ ghost use Rattle.std.specs.Prelude.{◌≡◌, ◌&&◌, not, filter};
 ghost use Rattle.std.specs.FinMap.{get};
 ghost use Rattle.std.specs.List.{list_any};
 ghost use Rattle.std.specs.Str.{bytes_eq};
-ghost use Rattle.ov_conversion.specs.Tables.{has_changed_column};
 ghost use Rattle.ov_specs.specs.conversion.Converted as spec;
 ghost use Rattle.ov_specs.specs.conversion.Converted.{is_of_changed_type};
-ghost use Rattle.ov_specs.specs.rows.RowNames.{is_own_column};
+ghost use Rattle.ov_specs.specs.rows.RowNames.{is_own_column, row_columns};
 ghost use Rattle.ov_specs.specs.schema.Newer.{newer_than};
 ghost use Rattle.ov_specs.specs.schema.Schema.{is_some_and};
 
@@ -47,39 +46,20 @@ fn is_any_of_changed_type(old: &Table, columns: &[(Text, Column)]) -> bool
     false
 }
 
-/// Whether the old schema has a table of this name, and a column of both tables has another type.
-fn has_changed_column(old: &Schema, name: &str, table: &Table) -> bool
-    ensures { result ≡ has_changed_column old.now name.now table.now }
+/// Whether both schemas have the table of this name, and a column of both tables has another type.
+fn is_changed_table(old: &Schema, new: &Schema, name: &str) -> bool
+    ensures { result
+        ≡ is_some_and (λ table. is_some_and
+        (λ former. list_any (is_of_changed_type former) (row_columns table))
+        (get old.now.tables name.now)) (get new.now.tables name.now) }
 {
+    let Some(table) = new.table(name) else {
+        return false;
+    };
     match old.table(name) {
         Some(former) => is_any_of_changed_type(former, table.columns()),
         None => false,
     }
-}
-
-/// Whether both schemas have the table of this name, and a column of both tables has another type.
-fn is_changed_table(old: &Schema, new: &Schema, name: &str) -> bool
-    ensures { result
-        ≡ is_some_and (has_changed_column old.now name.now) (get new.now.tables name.now) }
-{
-    match new.table(name) {
-        Some(table) => has_changed_column(old, name, table),
-        None => false,
-    }
-}
-
-/// Whether one of these tables is changed so.
-fn is_any_changed(old: &Schema, new: &Schema, tables: &[(Text, Table)]) -> bool
-    ensures { result
-        ≡ list_any (λ t. is_some_and (has_changed_column old.now t.0) (get new.now.tables t.0))
-        tables.now }
-{
-    for (name, _table) in tables {
-        if is_changed_table(old, new, name.as_str()) {
-            return true;
-        }
-    }
-    false
 }
 
 /// Whether a column that a table has in both schemas has another type (RFC 7047, 3.2, `<type>`). Whether a column is ephemeral
@@ -87,5 +67,10 @@ fn is_any_changed(old: &Schema, new: &Schema, tables: &[(Text, Table)]) -> bool
 pub fn has_changed_type(old: &Schema, new: &Schema) -> bool
     ensures { result ≡ spec.has_changed_type old.now new.now }
 {
-    is_any_changed(old, new, new.tables())
+    for (name, _table) in new.tables() {
+        if is_changed_table(old, new, name.as_str()) {
+            return true;
+        }
+    }
+    false
 }

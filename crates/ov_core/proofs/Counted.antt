@@ -1,14 +1,12 @@
 -- The counts of a core after several entries, from those after each.
-use Rattle.std.proofs.Common.{◌≡◌, ℕ, ◌+◌, ◌≤◌, List, [], ◌∷◌, ◌++◌, length, refl, sym, ap, subst, ◌∙◌, true, false, Option, Some, inl, inr, arith}
-use Rattle.std.specs.Prelude.{is_some}
-use Rattle.std.proofs.lemmas.Bool.{false≢true}
+use Rattle.std.proofs.Common.{◌≡◌, ℕ, ◌+◌, ◌≤◌, List, [], ◌∷◌, ◌++◌, length, refl, sym, ap, subst, Option, Some, arith}
 use Rattle.ov_specs.specs.machine.Machine.{State, Entry, Sent, Stepped, step}
-use Rattle.ov_keeper.specs.Keeping.{HasFailed}
 use Rattle.ov_laws.specs.Attempts.{most_attempts, count_of}
 use Rattle.ov_laws.specs.Databases.{at_moment_of}
 use Rattle.ov_core.specs.Counting.{CountsTries, CountsAll, most_in}
-use Rattle.ov_core.specs.Following.{CoreState, CountsWork}
-use Rattle.ov_core.proofs.Asking.{failed_before, failed_after, sealed_by}
+use Rattle.ov_core.specs.Asking.{IsSealedForCause}
+use Rattle.ov_core.specs.Following.{CoreState, CountsWork, keeper_of}
+use Rattle.ov_core.proofs.Asking.{sealed_same, sealed_then}
 use Rattle.ov_core.proofs.Trying.{counts_few}
 
 -- entries after entries
@@ -30,7 +28,7 @@ module _ {K D : Type 0} where
     tries = (state, tries);
     few = omega (arith, tries);
     failures = omega (arith, failures);
-    seal = λ before after. absurd (false≢true (sym before ∙ (ap (λ (s : State). is_some s.sealed) (sym state) ∙ after)));
+    seal = sealed_same (keeper_of a) (keeper_of b) (ap (λ (s : State). s.sealed) state);
   }
 
   pub counts_none : (a : CoreState K D) → CountsWork a [] a
@@ -42,7 +40,7 @@ module _ {K D : Type 0} where
 
   -- one entry
   pub counts_one : (a b : CoreState K D) (e : Entry) (sent : List Sent) → step a.state e ≡ Some (record { state = b.state; sent = sent }) → CountsTries (at_moment_of e a.state) e.choice e.event a.tries b.tries
-      → a.failures ≤ b.failures → (is_some a.state.sealed ≡ false → is_some b.state.sealed ≡ true → HasFailed a.failures b.failures) → CountsWork a (e ∷ []) b
+      → a.failures ≤ b.failures → IsSealedForCause (keeper_of a) (keeper_of b) → CountsWork a (e ∷ []) b
   counts_one a b e sent stepped tries failures seal =
       let all : CountsAll a.state (e ∷ []) a.tries b.state b.tries = (record { state = b.state; sent = sent }, b.tries, stepped, tries, (refl, refl)) in
       record { tries = all; few = all_few a.state (e ∷ []) a.tries b.state b.tries all; failures = failures; seal = seal }
@@ -51,7 +49,7 @@ module _ {K D : Type 0} where
   pub counts_unasked : (a b : CoreState K D) (e : Entry) (sent : List Sent) → step a.state e ≡ Some (record { state = b.state; sent = sent }) → CountsTries (at_moment_of e a.state) e.choice e.event a.tries b.tries
       → b.failures ≡ a.failures → b.state.sealed ≡ a.state.sealed → CountsWork a (e ∷ []) b
   counts_unasked a b e sent stepped tries failures sealed =
-      counts_one a b e sent stepped tries (omega (arith, failures)) (λ before after. absurd (false≢true (sym before ∙ (ap is_some (sym sealed) ∙ after))))
+      counts_one a b e sent stepped tries (omega (arith, failures)) (sealed_same (keeper_of a) (keeper_of b) sealed)
 
   -- entries after entries
   pub counts_on : (a b c : CoreState K D) (es fs : List Entry) → CountsWork a es b → CountsWork b fs c → CountsWork a (es ++ fs) c
@@ -61,8 +59,5 @@ module _ {K D : Type 0} where
         tries = all;
         few = all_few a.state (es ++ fs) a.tries c.state c.tries all;
         failures = omega (arith, one.failures, two.failures);
-        seal = λ before after. elim (sealed_by b.state.sealed) [
-          | inl between ↦ failed_after a.failures b.failures c.failures one.failures two.failures (two.seal between after)
-          | inr between ↦ failed_before a.failures b.failures c.failures (one.seal before between) two.failures
-        ];
+        seal = sealed_then (keeper_of a) (keeper_of b) (keeper_of c) one.failures two.failures one.seal two.seal;
       }

@@ -6,7 +6,7 @@ use Rattle.ov_db.specs.Changing.{Delta, applied}
 use Rattle.ov_db.specs.KeptDatabase.{KeptDatabase}
 use Rattle.ov_db.specs.declared.answer.StoreAnswer.{StoreAnswer}
 use Rattle.ov_db.specs.declared.answer.StoreAnswer.TheVariants as store
-use Rattle.ov_outbox.specs.Frames.{WaitingFrames, HasSameFrames, PostsSent, TakesPlaces, waiting_for, places_for, count_of, posted}
+use Rattle.ov_outbox.specs.Frames.{WaitingFrames, HasSameFrames, PostsSent, TakesPlaces, waiting_for, places_for, count_for, posted}
 use Rattle.ov_outbox.specs.Waits.{HasPlaces}
 use Rattle.ov_specs.specs.locks.Queues.{Queues}
 use Rattle.ov_specs.specs.machine.Machine as machine
@@ -19,7 +19,7 @@ use Rattle.ov_txn.specs.declared.tried.Tried.{Tried}
 use Rattle.ov_txn.specs.declared.tried.Tried.TheVariants.{Answer, Stored, Blocked, NoMemory}
 use Rattle.ov_core.specs.Handling.{PostsIfRoom, IsTrial}
 use Rattle.ov_core.specs.Preparing.{IsPrepared, Prepares, SendsPrepared, outcome_after}
-use Rattle.ov_core.specs.States.{sessions_of}
+use Rattle.ov_core.specs.States.{machine_sessions}
 use Rattle.ov_core.specs.declared.attempt.Trial.TheVariants.{Done}
 use Rattle.ov_history.specs.declared.event.Outcome.{Outcome}
 use Rattle.ov_core.specs.declared.replying.Replying.{Replying}
@@ -33,15 +33,15 @@ abbrev pub attempt_state : {K : Type 0} → KeptDatabase K → Replying → Atte
 attempt_state database ready = record { database = database; ready = ready }
 
 module _ {K : Type 0} (outcome : TransactionOutcome) (old : KeptDatabase K) (was : Replying) (none : was.prepared ≡ []) where
-  more_places : (is : Replying) (other : ℕ) → ((base : ℕ) → places_for other was.queues ≡ base + count_of other was.prepared → places_for other is.queues ≡ base + count_of other is.prepared)
-      → places_for other is.queues ≡ places_for other was.queues + count_of other is.prepared
-  more_places is other h = h (places_for other was.queues) (omega (arith, ap (count_of other) none))
+  more_places : (is : Replying) (other : ℕ) → ((base : ℕ) → places_for other was.queues ≡ base + count_for other was.prepared → places_for other is.queues ≡ base + count_for other is.prepared)
+      → places_for other is.queues ≡ places_for other was.queues + count_for other is.prepared
+  more_places is other h = h (places_for other was.queues) (omega (arith, ap (count_for other) none))
 
-  same_places : (is : Replying) (other : ℕ) → is ≡ was → places_for other is.queues ≡ places_for other was.queues + count_of other is.prepared
-  same_places is other same = rw same (omega (arith, ap (count_of other) none))
+  same_places : (is : Replying) (other : ℕ) → is ≡ was → places_for other is.queues ≡ places_for other was.queues + count_for other is.prepared
+  same_places is other same = rw same (omega (arith, ap (count_for other) none))
 
   -- a place more for each frame that is prepared
-  pub tried_places : (tried : Tried) (new : KeptDatabase K) (is : Replying) → IsTried Prepares outcome (attempt_state old was) tried (attempt_state new is) → (other : ℕ) → places_for other is.queues ≡ places_for other was.queues + count_of other is.prepared
+  pub tried_places : (tried : Tried) (new : KeptDatabase K) (is : Replying) → IsTried Prepares outcome (attempt_state old was) tried (attempt_state new is) → (other : ℕ) → places_for other is.queues ≡ places_for other was.queues + count_for other is.prepared
   tried_places (Answer results) new is (same, still, answer) other = same_places is other still
   tried_places (Stored answer) new is (made, commits) other = more_places is other (made.made.places other)
   tried_places (Blocked timeout) new is (same, still, waits) other = same_places is other still
@@ -49,7 +49,7 @@ module _ {K : Type 0} (outcome : TransactionOutcome) (old : KeptDatabase K) (was
   tried_places NoMemory new is (same, inr made) other = more_places is other (made.made.places other)
 
   -- so that there is one for each of them
-  pub tried_room : (tried : Tried) (new : KeptDatabase K) (is : Replying) → IsTried Prepares outcome (attempt_state old was) tried (attempt_state new is) → (other : ℕ) → count_of other is.prepared ≤ places_for other is.queues
+  pub tried_room : (tried : Tried) (new : KeptDatabase K) (is : Replying) → IsTried Prepares outcome (attempt_state old was) tried (attempt_state new is) → (other : ℕ) → count_for other is.prepared ≤ places_for other is.queues
   tried_room tried new is h other = omega (arith, tried_places tried new is h other)
 
   -- and after them the places that were kept before
@@ -67,7 +67,7 @@ module _ {K : Type 0} (outcome : TransactionOutcome) (old : KeptDatabase K) (was
 -- ---- what is sent by the store's answer
 
 module _ {K : Type 0} (ms : List machine.Session) (n : ℕ) (id : Data) (results : Items) (old : KeptDatabase K) (delta : Delta) (was is : Replying) (waits : WaitingFrames)
-    (none : was.prepared ≡ []) (session : was.session ≡ n) (id_is : was.id.now ≡ id) (sessions : sessions_of was.audience.watchers.now was.audience.sessions.now.open_sessions ≡ ms)
+    (none : was.prepared ≡ []) (session : was.session ≡ n) (id_is : was.id.now ≡ id) (sessions : machine_sessions was.audience.watchers.now was.audience.sessions.now.open_sessions ≡ ms)
     (prepared : IsPrepared was old delta (replies_with results) is) where
   abbrev updates : List Sent
   updates = updates_sent old.committed (applied delta old.committed) ms
@@ -107,7 +107,7 @@ module _ {K : Type 0} (ms : List machine.Session) (n : ℕ) (id : Data) (to : Qu
       subst (λ (k : KeptDatabase K). IsTrial (request ms n id (to queues)) (trial_state old waited) (Done o) (trial_state k waits)) (sym t.0) (answers ms n id (to queues) results old o waited waits t.2 from)
 
   pub trial_stored : (answer : StoreAnswer) (o : Outcome) → tried ≡ Stored answer → o ≡ outcome_after answer → was.prepared ≡ [] → was.session ≡ n → was.id.now ≡ id
-      → sessions_of was.audience.watchers.now was.audience.sessions.now.open_sessions ≡ ms → IsTrial (request ms n id (to queues)) (trial_state old waited) (Done (Some o)) (trial_state new between)
+      → machine_sessions was.audience.watchers.now was.audience.sessions.now.open_sessions ≡ ms → IsTrial (request ms n id (to queues)) (trial_state old waited) (Done (Some o)) (trial_state new between)
   trial_stored answer o same o_is none session id_is sessions =
       let t = tried_as (Stored answer) same in
       let made = t.0 in

@@ -12,7 +12,7 @@ use Rattle.ov_sessions.specs.declared.session.Session.{Session}
 use Rattle.ov_txn.specs.declared.ready.Replies.{Replies}
 use Rattle.ov_watch.specs.Watching.{Watching}
 use Rattle.ov_core.specs.Preparing.{AreFrames, HasPrepared, IsPreparedWhere, Prepares, PreparesFrames, PreparesMore, updates_to, updates_to_one}
-use Rattle.ov_core.specs.States.{sessions_of}
+use Rattle.ov_core.specs.States.{machine_sessions}
 use Rattle.ov_core.specs.declared.frames.Frames.{Frames}
 use Rattle.ov_core.specs.declared.replying.Replying.{Replying}
 
@@ -69,11 +69,11 @@ pub no_sessions : (before after : Database) (w : Watching) (all : List ℕ) (a :
 no_sessions before after w all a is = subst (λ (xs : List ℕ). PreparesMore (updates_to before after w xs) a true a) (sym is) (prepares_nothing a)
 
 -- the updates of the monitors of these sessions, by their serials
-pub updates_are : (before after : Database) (w : Watching) (sessions : List Session) → updates_sent before after (sessions_of w sessions) ≡ updates_to before after w (map (λ n. n.serial) sessions)
+pub updates_are : (before after : Database) (w : Watching) (sessions : List Session) → updates_sent before after (machine_sessions w sessions) ≡ updates_to before after w (map (λ n. n.serial) sessions)
 updates_are before after w [] = refl
 updates_are before after w (n ∷ sessions) = ap (λ rest. updates_to_one before after w n.serial ++ rest) (updates_are before after w sessions)
 
-pub sent_to : (before after : Database) (w : Watching) (sessions : List Session) (serials : List ℕ) (a b : Replying) (ok : Bool) → serials ≡ map (λ n. n.serial) sessions → PreparesMore (updates_to before after w serials) a ok b → PreparesMore (updates_sent before after (sessions_of w sessions)) a ok b
+pub sent_to : (before after : Database) (w : Watching) (sessions : List Session) (serials : List ℕ) (a b : Replying) (ok : Bool) → serials ≡ map (λ n. n.serial) sessions → PreparesMore (updates_to before after w serials) a ok b → PreparesMore (updates_sent before after (machine_sessions w sessions)) a ok b
 sent_to before after w sessions serials a b ok is h =
     subst (λ (sent : List Sent). PreparesMore sent a ok b) (ap (updates_to before after w) is ∙ sym (updates_are before after w sessions)) h
 
@@ -82,7 +82,7 @@ sent_to before after w sessions serials a b ok is h =
 -- the updates and then the reply, with the other replies at hand
 module _ {K : Type 0} (old b new : Replying) (f : Frames) (db : KeptDatabase K) (delta : Delta) (replies : Replies) (are : AreFrames old.id.now replies f) where
   abbrev updates : List Sent
-  updates = updates_sent db.committed (applied delta db.committed) (sessions_of old.audience.watchers.now old.audience.sessions.now.open_sessions)
+  updates = updates_sent db.committed (applied delta db.committed) (machine_sessions old.audience.watchers.now old.audience.sessions.now.open_sessions)
 
   abbrev at_hand : Replying
   at_hand = record old { exhausted = f.exhausted; failed = f.failed }

@@ -24,13 +24,14 @@ use Rattle.ov_history.specs.declared.event.Attempt.{Attempt}
 use Rattle.ov_history.specs.declared.event.Outcome.{Outcome}
 use Rattle.ov_history.specs.declared.event.Outcome.TheVariants as outcome
 use Rattle.ov_core.specs.declared.live.Live.{Live}
-use Rattle.ov_history.specs.Entries.{attempt_view, listed_by, is_closing, is_kept}
-use Rattle.ov_core.specs.Handling.{AsksStore, AsksAll, IsCompleted, IsTrial, listed_of, with_db}
+use Rattle.ov_history.specs.Entries.{attempt_view, listed_by, listed_of, is_closing}
+use Rattle.ov_core.specs.Asking.{AsksStore, AsksKeeper, keeper_state}
+use Rattle.ov_core.specs.Handling.{IsCompleted, IsTrial, with_db}
 use Rattle.ov_core.specs.Sessions.{ClosesSession}
-use Rattle.ov_core.specs.States.{state_of, sessions_of}
+use Rattle.ov_core.specs.States.{machine_state, machine_sessions}
 use Rattle.ov_core.specs.Settling.{SettlingState, SettlesSoFar, SettlesAll, AfterTry, tried_again, to_do}
 use Rattle.ov_outbox.proofs.Answered.{posts_then}
-use Rattle.ov_core.proofs.Asking.{asks_none, asks_one, asks_then}
+use Rattle.ov_core.proofs.Asking.{asks_nothing, asks_one, asks_then}
 use Rattle.ov_core.proofs.Counting.{few_dropped, few_blocked, few_done, few_again, falls_dropped, falls_again}
 use Rattle.ov_core.proofs.Watching.{any-serial, filter-same, sessions-without}
 use Rattle.ov_core.proofs.Workings.{request, trial_state, posts_none}
@@ -59,7 +60,7 @@ listed_few number (Some o) = omega arith
 -- ---- what a try leads to
 
 -- the state that a closing leaves
-pub closed_state : {K : Type 0} (m n : ℕ) (old new : Live K) → ClosesSession n old new → state_of new m ≡ (machine.closed (state_of old m) n).state
+pub closed_state : {K : Type 0} (m n : ℕ) (old new : Live K) → ClosesSession n old new → machine_state new m ≡ (machine.closed (machine_state old m) n).state
 closed_state m n old new c = rw (c.same, c.queues, sessions-without n old.watchers new.watchers c.watching old.sessions.open_sessions) refl
 
 -- after a finished try no more transactions wait than before
@@ -102,14 +103,14 @@ after_closing n (Some outcome.Committed) live new h c = absurd (false≢true h)
 after_closing n (Some outcome.Exhausted) live new h c = absurd (false≢true h)
 after_closing n (Some outcome.Failed) live new h c = absurd (false≢true h)
 
-pub after_kept : {K : Type 0} (n : ℕ) (o : Option Outcome) (live new : Live K) → is_kept o ≡ true → new ≡ tried_again live → AfterTry n o live new
+pub after_kept : {K : Type 0} (n : ℕ) (o : Option Outcome) (live new : Live K) → machine.is_kept (listed_of o) ≡ true → new ≡ tried_again live → AfterTry n o live new
 after_kept n None live new h is = absurd (false≢true h)
 after_kept n (Some outcome.NoMemory) live new h is = absurd (false≢true h)
 after_kept n (Some outcome.Committed) live new h is = is
 after_kept n (Some outcome.Exhausted) live new h is = absurd (false≢true h)
 after_kept n (Some outcome.Failed) live new h is = absurd (false≢true h)
 
-pub after_other : {K : Type 0} (n : ℕ) (o : Option Outcome) (live : Live K) → is_closing o ≡ false → is_kept o ≡ false → AfterTry n o live live
+pub after_other : {K : Type 0} (n : ℕ) (o : Option Outcome) (live : Live K) → is_closing o ≡ false → machine.is_kept (listed_of o) ≡ false → AfterTry n o live live
 after_other n None live h k = refl
 after_other n (Some outcome.NoMemory) live h k = absurd (false≢true (sym h))
 after_other n (Some outcome.Committed) live h k = absurd (false≢true (sym k))
@@ -117,7 +118,7 @@ after_other n (Some outcome.Exhausted) live h k = refl
 after_other n (Some outcome.Failed) live h k = refl
 
 -- those whose sessions are open, by the serials of the code
-still-same : (watching : Watching) (sessions : List Session) (waiting : List Outstanding) → filter (λ (o : Outstanding). list_any (λ (n : machine.Session). eqb n.serial o.session) (sessions_of watching sessions)) waiting ≡ filter (λ (o : Outstanding). has_serial o.session sessions) waiting
+still-same : (watching : Watching) (sessions : List Session) (waiting : List Outstanding) → filter (λ (o : Outstanding). list_any (λ (n : machine.Session). eqb n.serial o.session) (machine_sessions watching sessions)) waiting ≡ filter (λ (o : Outstanding). has_serial o.session sessions) waiting
 still-same watching sessions waiting = filter-same _ _ (λ o. any-serial watching o.session sessions) waiting
 
 -- ---- from one try to the next
@@ -135,7 +136,7 @@ module _ {K : Type 0} (failed : K → ℕ) (m first : ℕ) (from : Live K) (befo
 
   -- one attempt more
   one_more : (x : SettlesSoFar failed m first (settling_at from before) (settling_at now listed) number) (o : Option Outcome) (sent : List Sent) (new : Live K) (more : List Attempt) → more ≡ listed ++ listed_by number o
-      → Reaches (state_of from m) first (x.made ++ made_by number (listed_of o)) (at_point (state_of new m) (x.sent ++ sent) (number + 1) new.waiting.untried)
+      → Reaches (machine_state from m) first (x.made ++ made_by number (listed_of o)) (at_point (machine_state new m) (x.sent ++ sent) (number + 1) new.waiting.untried)
       → PostsSent sent now.outbox.frames new.outbox.frames → AsksStore failed o now.database new.database → failed now.database.keeper ≤ failed new.database.keeper
       → IsLeft now.sessions.open_sessions new.sessions.open_sessions → new.tries ≡ now.tries + 1 → Few (number + 1) new.waiting → SettlesSoFar failed m first (settling_at from before) (settling_at new more) (number + 1)
   one_more x o sent new more is reaches posts asks counts left tries few = record {
@@ -145,15 +146,16 @@ module _ {K : Type 0} (failed : K → ℕ) (m first : ℕ) (from : Live K) (befo
     sent = x.sent ++ sent;
     reaches = reaches;
     posts = posts_then x.sent sent from.outbox.frames now.outbox.frames new.outbox.frames x.posts posts;
-    asks = asks_then failed x.made (made_by number (listed_of o)) from.database now.database new.database x.asks (subst (λ (list : List machine.Attempt). AsksAll failed list now.database new.database) (made_same number o) (asks_one failed number o now.database new.database asks counts));
+    asks = asks_then x.made (made_by number (listed_of o)) (keeper_state failed from.database) (keeper_state failed now.database) (keeper_state failed new.database) x.asks
+        (subst (λ (list : List machine.Attempt). AsksKeeper list (keeper_state failed now.database) (keeper_state failed new.database)) (made_same number o) (asks_one failed number o now.database new.database asks counts));
     left = left_then from.sessions.open_sessions now.sessions.open_sessions new.sessions.open_sessions x.left left;
     tries = omega (arith, x.tries, tries);
     few = few;
   }
 
   module _ (x : SettlesSoFar failed m first (settling_at from before) (settling_at now listed) number) (w : Outstanding) (rest : List Outstanding) (next : now.waiting.untried ≡ w ∷ rest) where
-    here : Reaches (state_of from m) first x.made (at_point (state_of now m) x.sent number (w ∷ rest))
-    here = subst (λ (ws : List Outstanding). Reaches (state_of from m) first x.made (at_point (state_of now m) x.sent number ws)) next x.reaches
+    here : Reaches (machine_state from m) first x.made (at_point (machine_state now m) x.sent number (w ∷ rest))
+    here = subst (λ (ws : List Outstanding). Reaches (machine_state from m) first x.made (at_point (machine_state now m) x.sent number ws)) next x.reaches
 
     one : length rest + 1 ≡ length now.waiting.untried
     one = omega (arith, ap (λ (ws : List Outstanding). length ws) next)
@@ -164,7 +166,7 @@ module _ {K : Type 0} (failed : K → ℕ) (m first : ℕ) (from : Live K) (befo
       made = x.made;
       lists = x.lists;
       sent = x.sent;
-      reaches = reaches_skip (state_of from m) first x.made (state_of now m) x.sent number w rest here (any-serial now.watchers w.session now.sessions.open_sessions ∙ away);
+      reaches = reaches_skip (machine_state from m) first x.made (machine_state now m) x.sent number w rest here (any-serial now.watchers w.session now.sessions.open_sessions ∙ away);
       posts = x.posts;
       asks = x.asks;
       left = x.left;
@@ -173,7 +175,7 @@ module _ {K : Type 0} (failed : K → ℕ) (m first : ℕ) (from : Live K) (befo
     }
 
     module _ (open' : has_serial w.session now.sessions.open_sessions ≡ true) where
-      there : machine.is_open (state_of now m) w.session ≡ true
+      there : machine.is_open (machine_state now m) w.session ≡ true
       there = any-serial now.watchers w.session now.sessions.open_sessions ∙ open'
 
       -- its result
@@ -182,13 +184,13 @@ module _ {K : Type 0} (failed : K → ℕ) (m first : ℕ) (from : Live K) (befo
 
       -- one that changed nothing that was kept
       next_one : (o : Option Outcome) → machine.is_kept (listed_of o) ≡ false → (sent : List Sent) (new : Live K) (more : List Attempt) → more ≡ listed ++ listed_by number o
-          → tries_again (state_of now m) w (listed_of o) ≡ Some (record { state = state_of new m; sent = sent }) → new.waiting.untried ≡ rest
+          → tries_again (machine_state now m) w (listed_of o) ≡ Some (record { state = machine_state new m; sent = sent }) → new.waiting.untried ≡ rest
           → PostsSent sent now.outbox.frames new.outbox.frames → AsksStore failed o now.database new.database → failed now.database.keeper ≤ failed new.database.keeper
           → IsLeft now.sessions.open_sessions new.sessions.open_sessions → new.tries ≡ now.tries + 1 → Few (number + 1) new.waiting → SettlesSoFar failed m first (settling_at from before) (settling_at new more) (number + 1)
       next_one o not_kept sent new more is again untried posts asks counts left tries few =
           one_more x o sent new more is
-          (subst (λ (ws : List Outstanding). Reaches (state_of from m) first (x.made ++ made_by number (listed_of o)) (at_point (state_of new m) (x.sent ++ sent) (number + 1) ws)) (sym untried)
-          (reaches_next (state_of from m) first x.made (state_of now m) x.sent number w rest here (listed_of o) (record { state = state_of new m; sent = sent }) there again not_kept))
+          (subst (λ (ws : List Outstanding). Reaches (machine_state from m) first (x.made ++ made_by number (listed_of o)) (at_point (machine_state new m) (x.sent ++ sent) (number + 1) ws)) (sym untried)
+          (reaches_next (machine_state from m) first x.made (machine_state now m) x.sent number w rest here (listed_of o) (record { state = machine_state new m; sent = sent }) there again not_kept))
           posts asks counts left tries few
 
       -- one that is blocked again, which leaves the waiting frames as they are
@@ -211,28 +213,28 @@ module _ {K : Type 0} (failed : K → ℕ) (m first : ℕ) (from : Live K) (befo
             (length new.waiting.untried) (many new.waiting) (omega (arith, ap (λ (ws : List Outstanding). length ws) (after_untried w.session o mid new h after), one)) (omega (arith, one, after_few w.session o mid new after))
 
         -- what is tried again comes to what completes
-        completes_again : (o : Option Outcome) (c : IsCompleted (request (sessions_of now.watchers now.sessions.open_sessions) w.session w.id on) (trial_state now.database now.outbox.frames) o (trial_state db outbox.frames))
-            → tries_again (state_of now m) w (listed_of o) ≡ machine.attempt (state_of now m) w on (listed_of o)
-            → tries_again (state_of now m) w (listed_of o) ≡ Some (record { state = with_db (state_of now m) db; sent = c.sent })
-        completes_again o c is = is ∙ (ap (λ (t : TransactionOutcome). machine.attempt (state_of now m) w t (listed_of o)) c.is ∙ c.comes (state_of now m) refl)
+        completes_again : (o : Option Outcome) (c : IsCompleted (request (machine_sessions now.watchers now.sessions.open_sessions) w.session w.id on) (trial_state now.database now.outbox.frames) o (trial_state db outbox.frames))
+            → tries_again (machine_state now m) w (listed_of o) ≡ machine.attempt (machine_state now m) w on (listed_of o)
+            → tries_again (machine_state now m) w (listed_of o) ≡ Some (record { state = with_db (machine_state now m) db; sent = c.sent })
+        completes_again o c is = is ∙ (ap (λ (t : TransactionOutcome). machine.attempt (machine_state now m) w t (listed_of o)) c.is ∙ c.comes (machine_state now m) refl)
 
         -- the state over the database is that of the live state
-        state_is : state_of mid m ≡ with_db (state_of now m) db
+        state_is : machine_state mid m ≡ with_db (machine_state now m) db
         state_is = rw queues refl
 
         unkept : (o : Option Outcome) (new : Live K) (more : List Attempt) → more ≡ listed ++ listed_by number o → machine.is_kept (listed_of o) ≡ false → AfterTry w.session o mid new → new ≡ mid
-            → tries_again (state_of now m) w (listed_of o) ≡ machine.attempt (state_of now m) w on (listed_of o)
-            → IsCompleted (request (sessions_of now.watchers now.sessions.open_sessions) w.session w.id on) (trial_state now.database now.outbox.frames) o (trial_state db outbox.frames)
+            → tries_again (machine_state now m) w (listed_of o) ≡ machine.attempt (machine_state now m) w on (listed_of o)
+            → IsCompleted (request (machine_sessions now.watchers now.sessions.open_sessions) w.session w.id on) (trial_state now.database now.outbox.frames) o (trial_state db outbox.frames)
             → AsksStore failed o now.database db → failed now.database.keeper ≤ failed db.keeper → SettlesSoFar failed m first (settling_at from before) (settling_at new more) (number + 1)
         unkept o new more is h after same tries c asks counts =
             let few = few_after o new after h in
             rw same (next_one o h c.sent mid more is (completes_again o c tries ∙ ap (λ (s : State). Some (record { state = s; sent = c.sent })) (sym state_is)) refl c.posts asks counts (still_all now.sessions.open_sessions) refl (rw same at few))
 
         pub done : (o : Option Outcome) (new : Live K) (more : List Attempt) → more ≡ listed ++ listed_by number o → AfterTry w.session o mid new
-            → IsTrial (request (sessions_of now.watchers now.sessions.open_sessions) w.session w.id on) (trial_state now.database now.outbox.frames) (Done o) (trial_state db outbox.frames)
+            → IsTrial (request (machine_sessions now.watchers now.sessions.open_sessions) w.session w.id on) (trial_state now.database now.outbox.frames) (Done o) (trial_state db outbox.frames)
             → AsksStore failed o now.database db → failed now.database.keeper ≤ failed db.keeper → SettlesSoFar failed m first (settling_at from before) (settling_at new more) (number + 1)
         done (Some outcome.NoMemory) new more is c (same, silent) asks counts =
-            let sent = (machine.closed (state_of now m) w.session).sent in
+            let sent = (machine.closed (machine_state now m) w.session).sent in
             let few = few_after (Some outcome.NoMemory) new c refl in
             next_one (Some outcome.NoMemory) refl sent new more is
             (rw (closed_state m w.session mid new c, queues, same) refl)
@@ -253,10 +255,10 @@ module _ {K : Type 0} (failed : K → ℕ) (m first : ℕ) (from : Live K) (befo
             let few = few_again number (first + first + (length from.waiting.outstanding + length from.waiting.outstanding * length from.waiting.outstanding)) (length now.waiting.untried) (many now.waiting) x.few (many (tried_again mid).waiting) (omega (arith, one)) (omega (arith, one, fewer)) in
             omega (arith, few)))
           where
-            again : (c : IsCompleted (request (sessions_of now.watchers now.sessions.open_sessions) w.session w.id on) (trial_state now.database now.outbox.frames) (Some outcome.Committed) (trial_state db outbox.frames))
-                → Reaches (state_of from m) first (x.made ++ made_by number (listed_of (Some outcome.Committed))) (at_point (state_of (tried_again mid) m) (x.sent ++ c.sent) (number + 1) (tried_again mid).waiting.untried)
+            again : (c : IsCompleted (request (machine_sessions now.watchers now.sessions.open_sessions) w.session w.id on) (trial_state now.database now.outbox.frames) (Some outcome.Committed) (trial_state db outbox.frames))
+                → Reaches (machine_state from m) first (x.made ++ made_by number (listed_of (Some outcome.Committed))) (at_point (machine_state (tried_again mid) m) (x.sent ++ c.sent) (number + 1) (tried_again mid).waiting.untried)
             again c =
-                let reached = reaches_again (state_of from m) first x.made (state_of now m) x.sent number w rest here (Some machine.Committed) (record { state = with_db (state_of now m) db; sent = c.sent }) there (completes_again (Some outcome.Committed) c refl) refl in
+                let reached = reaches_again (machine_state from m) first x.made (machine_state now m) x.sent number w rest here (Some machine.Committed) (record { state = with_db (machine_state now m) db; sent = c.sent }) there (completes_again (Some outcome.Committed) c refl) refl in
                 rw (queues, ← still-same now.watchers now.sessions.open_sessions rest) reached
 
 -- ---- the first and the last
@@ -268,9 +270,9 @@ begun failed m first old listed none = rw none (record {
   made = [];
   lists = sym (append-nil (map attempt_view listed));
   sent = [];
-  reaches = reaches_first (state_of old m) first;
+  reaches = reaches_first (machine_state old m) first;
   posts = posts_none old.outbox.frames old.outbox.frames (λ other. refl);
-  asks = asks_none failed old.database;
+  asks = asks_nothing [] (keeper_state failed old.database) (keeper_state failed old.database) refl (refl, refl) refl;
   left = still_all old.sessions.open_sessions;
   tries = refl;
   few = omega arith;
@@ -288,9 +290,9 @@ ended failed m first old before new listed number x none = record {
   posts = x.posts;
   asks = x.asks;
   left = x.left;
-  tries = omega (arith, x.tries, (settle_counts (state_of old m) first x.made _ settled).up);
+  tries = omega (arith, x.tries, (settle_counts (machine_state old m) first x.made _ settled).up);
   untried = none;
 }
   where
-    settled : machine.settle (state_of old m) first x.made ≡ Some (record { tried = record { stepped = record { state = state_of new m; sent = x.sent }; others = [] }; next = number; has_changed = false })
-    settled = reaches_last (state_of old m) first x.made (state_of new m) x.sent number (subst (λ (ws : List Outstanding). Reaches (state_of old m) first x.made (at_point (state_of new m) x.sent number ws)) none x.reaches)
+    settled : machine.settle (machine_state old m) first x.made ≡ Some (record { tried = record { stepped = record { state = machine_state new m; sent = x.sent }; others = [] }; next = number; has_changed = false })
+    settled = reaches_last (machine_state old m) first x.made (machine_state new m) x.sent number (subst (λ (ws : List Outstanding). Reaches (machine_state old m) first x.made (at_point (machine_state new m) x.sent number ws)) none x.reaches)

@@ -1,9 +1,8 @@
 -- One step of the machine, and of the core.
 use Rattle.std.proofs.Common.{◌≡◌, ℕ, ◌≤◌, List, [], ◌∷◌, ◌++◌, map, refl, sym, ap, ◌∙◌, cond, Bool, true, false, Option, Some, None, append_assoc, leb, inl, inr, arith}
-use Rattle.std.specs.Prelude.{is_some}
 use Rattle.std.specs.List.{list_all}
 use Rattle.std.proofs.lemmas.List.{append-nil}
-use Rattle.std.proofs.lemmas.Bool.{le-leb, false≢true}
+use Rattle.std.proofs.lemmas.Bool.{le-leb}
 use Rattle.std.proofs.lemmas.Option.{same_Some}
 use Rattle.ov_specs.specs.machine.Machine as machine
 use Rattle.ov_specs.specs.machine.Machine.{State, Sent, Stepped, step}
@@ -24,16 +23,18 @@ use Rattle.ov_history.specs.declared.event.Attempt.{Attempt}
 use Rattle.ov_history.specs.declared.event.Entry.{Entry}
 use Rattle.ov_history.specs.declared.event.Stepped.TheVariants as answer
 use Rattle.ov_core.specs.declared.live.Live.{Live}
-use Rattle.ov_history.specs.Entries.{attempt_view, entry_view, is_failure}
+use Rattle.ov_history.specs.Entries.{attempt_view, entry_view}
 use Rattle.ov_core.specs.Sessions.{ClosesSession, OpensLive}
-use Rattle.ov_core.specs.States.{state_of}
+use Rattle.ov_core.specs.States.{machine_state}
 use Rattle.ov_core.proofs.Trying.{counts_few}
 use Rattle.ov_core.specs.Settling.{ComesTo, choice_of}
-use Rattle.ov_core.specs.Following.{CoreState, CountsWork, EntersEntry, Follows, none_given}
+use Rattle.ov_core.specs.Asking.{AsksKeeper}
+use Rattle.ov_core.specs.Following.{CoreState, CountsWork, EntersEntry, Follows, keeper_of, none_given}
 use Rattle.ov_history.specs.History.{newest, HasHistory}
-use Rattle.ov_core.specs.Stepping.{closing, AsksKeeper, Closes, HasSameKeeper, IsEntered, has_outcome}
+use Rattle.ov_core.specs.Stepping.{closing, Closes, IsEntered}
 use Rattle.ov_outbox.proofs.Answered.{frames_to-append}
 use Rattle.ov_history.proofs.Histories.{entered_after, keeps_more, has_more}
+use Rattle.ov_core.proofs.Asking.{asks_nothing}
 use Rattle.ov_core.proofs.Counted.{counts_one, counts_unasked}
 use Rattle.ov_core.proofs.Settlings.{closed_state}
 use Rattle.ov_core.proofs.Watching.{any-serial, left-open, sessions-opened}
@@ -87,7 +88,7 @@ entered_as m n message text draws outcomes x is same =
 -- what a core was over the live state
 abbrev pub core_of : {K D : Type 0} → (K → ℕ) → Live K → ℕ → List Entry → D → CoreState K D
 core_of failed live m entries source = record {
-  state = state_of live m;
+  state = machine_state live m;
   open_sessions = live.sessions.open_sessions;
   kept = entries;
   outbox = live.outbox.frames;
@@ -99,11 +100,11 @@ core_of failed live m entries source = record {
 
 -- a session that was opened
 module _ {K : Type 0} (failed : K → ℕ) (session : Session) (old new : Live K) (before m : ℕ) (opens : OpensLive old session new) where
-  opened_state : (machine.with_next_session (state_of old m)) ≡ state_of new m
+  opened_state : (machine.with_next_session (machine_state old m)) ≡ machine_state new m
   opened_state = sym (rw (opens.same, opens.opens.sessions, sessions-opened session old.sessions.next old.watchers new.watchers opens.opens.serial opens.watching old.sessions.open_sessions opens.opens.fresh) refl)
 
-  is_opening : before ≤ m → step (state_of old before) (entry_of machine.Open (nothing_chosen m)) ≡ Some (record { state = state_of new m; sent = [] })
-  is_opening low = step_at (state_of old before) machine.Open (nothing_chosen m) low ∙ ap (λ (s : State). Some (record { state = s; sent = [] })) opened_state
+  is_opening : before ≤ m → step (machine_state old before) (entry_of machine.Open (nothing_chosen m)) ≡ Some (record { state = machine_state new m; sent = [] })
+  is_opening low = step_at (machine_state old before) machine.Open (nothing_chosen m) low ∙ ap (λ (s : State). Some (record { state = s; sent = [] })) opened_state
 
   pub opened : {D : Type 0} (was is : List Entry) (x : Entry) (source : D) → before ≤ m → is ≡ newest (was ++ x ∷ []) → entry_view x ≡ entry_of machine.Open (nothing_chosen m)
       → EntersEntry (core_of failed old before was source) (entry_of machine.Open (nothing_chosen m)) (core_of failed new m is source)
@@ -112,87 +113,79 @@ module _ {K : Type 0} (failed : K → ℕ) (session : Session) (old new : Live K
       (counts_unasked (core_of failed old before was source) (core_of failed new m is source) (entry_of machine.Open (nothing_chosen m)) [] (is_opening low) (omega (arith, ap (λ (l : Live K). l.tries) opens.same))
       (ap (λ (l : Live K). failed l.database.keeper) opens.same) (ap (λ (l : Live K). l.database.sealed) opens.same))
 
-  pub has_opened : (was is : List Entry) (x : Entry) → before ≤ m → is ≡ newest (was ++ x ∷ []) → entry_view x ≡ entry_of machine.Open (nothing_chosen m) → HasHistory (state_of old before) was → HasHistory (state_of new m) is
-  has_opened was is x low added same has = has_more (state_of old before) (state_of new m) was is (entry_of machine.Open (nothing_chosen m)) [] (is_opening low) refl (entered_after was is x _ added same) has
+  pub has_opened : (was is : List Entry) (x : Entry) → before ≤ m → is ≡ newest (was ++ x ∷ []) → entry_view x ≡ entry_of machine.Open (nothing_chosen m) → HasHistory (machine_state old before) was → HasHistory (machine_state new m) is
+  has_opened was is x low added same has = has_more (machine_state old before) (machine_state new m) was is (entry_of machine.Open (nothing_chosen m)) [] (is_opening low) refl (entered_after was is x _ added same) has
 
 -- a session that was closed
 module _ {K : Type 0} (failed : K → ℕ) (n : ℕ) (cause : machine.Cause) (old new : Live K) (before m : ℕ) (closes : ClosesSession n old new) where
   abbrev sent : List Sent
-  sent = (machine.closed (state_of old m) n).sent
+  sent = (machine.closed (machine_state old m) n).sent
 
-  is_closing_of : before ≤ m → machine.is_open (state_of old before) n ≡ true → step (state_of old before) (closing m n cause) ≡ Some (record { state = state_of new m; sent = sent })
+  is_closing_of : before ≤ m → machine.is_open (machine_state old before) n ≡ true → step (machine_state old before) (closing m n cause) ≡ Some (record { state = machine_state new m; sent = sent })
   is_closing_of low there =
-      step_at (state_of old before) (machine.Close n cause) (nothing_chosen m) low ∙ (rw there refl ∙ ap (λ (s : State). Some (record { state = s; sent = sent })) (sym (closed_state m n old new closes)))
+      step_at (machine_state old before) (machine.Close n cause) (nothing_chosen m) low ∙ (rw there refl ∙ ap (λ (s : State). Some (record { state = s; sent = sent })) (sym (closed_state m n old new closes)))
 
-  pub closed : {D : Type 0} (was is : List Entry) (x : Entry) (source : D) → before ≤ m → machine.is_open (state_of old before) n ≡ true → is ≡ newest (was ++ x ∷ []) → entry_view x ≡ closing m n cause
+  pub closed : {D : Type 0} (was is : List Entry) (x : Entry) (source : D) → before ≤ m → machine.is_open (machine_state old before) n ≡ true → is ≡ newest (was ++ x ∷ []) → entry_view x ≡ closing m n cause
       → Closes m n cause (core_of failed old before was source) (core_of failed new m is source)
   closed was is x source low there added same = record {
     moves = moves_with (core_of failed old before was source) (core_of failed new m is source) (closing m n cause) x sent (is_closing_of low there) added same closes.posts
         (counts_unasked (core_of failed old before was source) (core_of failed new m is source) (closing m n cause) sent (is_closing_of low there) (omega (arith, ap (λ (l : Live K). l.tries) closes.same))
         (ap (λ (l : Live K). failed l.database.keeper) closes.same) (ap (λ (l : Live K). l.database.sealed) closes.same));
     shut = any-serial new.watchers n new.sessions.open_sessions ∙ rw closes.same (shut_without n old.sessions.open_sessions);
-    keys = left-open (state_of new m) new.watchers old.sessions.open_sessions new.sessions.open_sessions refl (rw closes.same (still_others n old.sessions.open_sessions));
+    keys = left-open (machine_state new m) new.watchers old.sessions.open_sessions new.sessions.open_sessions refl (rw closes.same (still_others n old.sessions.open_sessions));
     drawn = refl;
     asks = (ap (λ (l : Live K). l.database.keeper) closes.same, ap (λ (l : Live K). failed l.database.keeper) closes.same);
     tries = ap (λ (l : Live K). l.tries) closes.same;
     forgotten = closes.forgotten;
   }
 
-  pub has_closed : (was is : List Entry) (x : Entry) → before ≤ m → machine.is_open (state_of old before) n ≡ true → is ≡ newest (was ++ x ∷ []) → entry_view x ≡ closing m n cause → HasHistory (state_of old before) was → HasHistory (state_of new m) is
-  has_closed was is x low there added same has = has_more (state_of old before) (state_of new m) was is (closing m n cause) sent (is_closing_of low there) refl (entered_after was is x _ added same) has
+  pub has_closed : (was is : List Entry) (x : Entry) → before ≤ m → machine.is_open (machine_state old before) n ≡ true → is ≡ newest (was ++ x ∷ []) → entry_view x ≡ closing m n cause → HasHistory (machine_state old before) was → HasHistory (machine_state new m) is
+  has_closed was is x low there added same has = has_more (machine_state old before) (machine_state new m) was is (closing m n cause) sent (is_closing_of low there) refl (entered_after was is x _ added same) has
 
 -- what an event came to, as it was entered
 module _ {K : Type 0} (failed : K → ℕ) (event : machine.Event) (old new : Live K) (before m : ℕ) (draws : List Uuid) (attempts : List Attempt) (comes : ComesTo failed (choice_of m draws attempts) event old new) where
   abbrev pub entered : machine.Entry
   entered = entry_of event (record { moment = m; draws = draws; outcomes = map attempt_view attempts })
 
-  is_step : before ≤ m → step (state_of old before) entered ≡ Some (record { state = state_of new m; sent = comes.sent })
-  is_step low = step_at (state_of old before) event entered.choice low ∙ comes.happens
+  is_step : before ≤ m → step (machine_state old before) entered ≡ Some (record { state = machine_state new m; sent = comes.sent })
+  is_step low = step_at (machine_state old before) event entered.choice low ∙ comes.happens
 
   pub enters : {D : Type 0} (was is : List Entry) (x : Entry) (source after : D) → before ≤ m → is ≡ newest (was ++ x ∷ []) → entry_view x ≡ entered → EntersEntry (core_of failed old before was source) entered (core_of failed new m is after)
   enters was is x source after low added same =
       moves_with (core_of failed old before was source) (core_of failed new m is after) entered x comes.sent (is_step low) added same comes.posts
       (counts_one (core_of failed old before was source) (core_of failed new m is after) entered comes.sent (is_step low) comes.tries comes.asks.counts comes.asks.seal)
 
-  pub has_entered : (was is : List Entry) (x : Entry) → before ≤ m → is ≡ newest (was ++ x ∷ []) → entry_view x ≡ entered → list_all is_uuid draws ≡ true → HasHistory (state_of old before) was → HasHistory (state_of new m) is
-  has_entered was is x low added same uuids has = has_more (state_of old before) (state_of new m) was is entered comes.sent (is_step low) uuids (entered_after was is x entered added same) has
-
-  pub asks_entered : {D : Type 0} (was is : List Entry) (source after : D) → AsksKeeper (core_of failed old before was source) entered (core_of failed new m is after)
-  asks_entered was is source after = record {
-    unasked = λ none. (comes.asks.unasked none, ap failed (comes.asks.unasked none));
-    failure = comes.asks.failure;
-    seal = comes.asks.seal;
-    counts = comes.asks.counts;
-  }
+  pub has_entered : (was is : List Entry) (x : Entry) → before ≤ m → is ≡ newest (was ++ x ∷ []) → entry_view x ≡ entered → list_all is_uuid draws ≡ true → HasHistory (machine_state old before) was → HasHistory (machine_state new m) is
+  has_entered was is x low added same uuids has = has_more (machine_state old before) (machine_state new m) was is entered comes.sent (is_step low) uuids (entered_after was is x entered added same) has
 
 -- a message that was taken: its session is open afterwards, or not
 pub took : {K D : Type 0} (failed : K → ℕ) (draws : D → Uuid → D → Type 0) (n : ℕ) (message : Message) (old new : Live K) (before m : ℕ) (drawn : List Uuid) (attempts : List Attempt) (was is : List Entry) (x : Entry) (source after : D) (b : Bool)
     → ComesTo failed (choice_of m drawn attempts) (machine.Take n message) old new → before ≤ m → is ≡ newest (was ++ x ∷ []) → entry_view x ≡ entry_of (machine.Take n message) (record { moment = m; draws = drawn; outcomes = map attempt_view attempts })
-    → DrawsFrom draws source drawn after → list_all is_uuid drawn ≡ true → machine.is_open (state_of new m) n ≡ b
+    → DrawsFrom draws source drawn after → list_all is_uuid drawn ≡ true → machine.is_open (machine_state new m) n ≡ b
     → IsEntered draws m (machine.Take n message) (core_of failed old before was source) (cond b answer.Done answer.Closed) (core_of failed new m is after)
 took failed draws n message old new before m drawn attempts was is x source after true comes low added same from uuids there = record {
   entry = entered failed (machine.Take n message) old new before m drawn attempts comes;
   tells = (refl, there);
-  keys = left-open (state_of new m) new.watchers old.sessions.open_sessions new.sessions.open_sessions refl comes.left;
+  keys = left-open (machine_state new m) new.watchers old.sessions.open_sessions new.sessions.open_sessions refl comes.left;
   moment = refl;
   drawn = from;
   uuids = uuids;
   moves = enters failed (machine.Take n message) old new before m drawn attempts comes was is x source after low added same;
-  asks = asks_entered failed (machine.Take n message) old new before m drawn attempts comes was is source after;
+  asks = comes.asks;
   tries = comes.tries;
-  few = counts_few (state_of old m) (record { moment = m; draws = drawn; outcomes = map attempt_view attempts }) (machine.Take n message) old.tries new.tries comes.tries;
+  few = counts_few (machine_state old m) (record { moment = m; draws = drawn; outcomes = map attempt_view attempts }) (machine.Take n message) old.tries new.tries comes.tries;
 }
 took failed draws n message old new before m drawn attempts was is x source after false comes low added same from uuids away = record {
   entry = entered failed (machine.Take n message) old new before m drawn attempts comes;
   tells = (inl refl, away);
-  keys = left-open (state_of new m) new.watchers old.sessions.open_sessions new.sessions.open_sessions refl comes.left;
+  keys = left-open (machine_state new m) new.watchers old.sessions.open_sessions new.sessions.open_sessions refl comes.left;
   moment = refl;
   drawn = from;
   uuids = uuids;
   moves = enters failed (machine.Take n message) old new before m drawn attempts comes was is x source after low added same;
-  asks = asks_entered failed (machine.Take n message) old new before m drawn attempts comes was is source after;
+  asks = comes.asks;
   tries = comes.tries;
-  few = counts_few (state_of old m) (record { moment = m; draws = drawn; outcomes = map attempt_view attempts }) (machine.Take n message) old.tries new.tries comes.tries;
+  few = counts_few (machine_state old m) (record { moment = m; draws = drawn; outcomes = map attempt_view attempts }) (machine.Take n message) old.tries new.tries comes.tries;
 }
 
 -- a Tick
@@ -202,28 +195,19 @@ pub ticked : {K D : Type 0} (failed : K → ℕ) (draws : D → Uuid → D → T
 ticked failed draws old new before m attempts was is x source comes low added same = record {
   entry = entered failed machine.Tick old new before m [] attempts comes;
   tells = refl;
-  keys = left-open (state_of new m) new.watchers old.sessions.open_sessions new.sessions.open_sessions refl comes.left;
+  keys = left-open (machine_state new m) new.watchers old.sessions.open_sessions new.sessions.open_sessions refl comes.left;
   moment = refl;
   drawn = refl;
   uuids = refl;
   moves = enters failed machine.Tick old new before m [] attempts comes was is x source source low added same;
-  asks = asks_entered failed machine.Tick old new before m [] attempts comes was is source source;
+  asks = comes.asks;
   tries = comes.tries;
-  few = counts_few (state_of old m) (record { moment = m; draws = []; outcomes = map attempt_view attempts }) machine.Tick old.tries new.tries comes.tries;
+  few = counts_few (machine_state old m) (record { moment = m; draws = []; outcomes = map attempt_view attempts }) machine.Tick old.tries new.tries comes.tries;
 }
 
--- ---- what the keeper was asked
+-- ---- a closing
 
--- nothing, so it and the seal are as before
-pub asks_nothing : {K D : Type 0} (old new : CoreState K D) (entry : machine.Entry) → has_outcome is_failure entry ≡ false → HasSameKeeper old new → new.state.sealed ≡ old.state.sealed → AsksKeeper old entry new
-asks_nothing old new entry none same sealed = record {
-  unasked = λ _. same;
-  failure = λ failed. absurd (false≢true (sym none ∙ failed));
-  seal = λ before after. absurd (false≢true (sym before ∙ (ap is_some (sym sealed) ∙ after)));
-  counts = omega (arith, same.1);
-}
-
--- a closing leaves the seal
+-- it leaves the seal
 closing_sealed : (s t : State) (m n : ℕ) (cause : machine.Cause) (sent : List Sent) → step s (closing m n cause) ≡ Some (record { state = t; sent = sent }) → t.sealed ≡ s.sealed
 closing_sealed s t m n cause sent h = by (leb s.moment m) (machine.is_open s n) h
   where
@@ -232,8 +216,8 @@ closing_sealed s t m n cause sent h = by (leb s.moment m) (machine.is_open s n) 
     by true false k = cc
     by false c k = cc
 
-pub asks_closing : {K D : Type 0} (m n : ℕ) (cause : machine.Cause) (old new : CoreState K D) → Closes m n cause old new → AsksKeeper old (closing m n cause) new
-asks_closing m n cause old new c = asks_nothing old new (closing m n cause) refl c.asks (closing_sealed old.state new.state m n cause c.moves.sent c.moves.stepped)
+pub asks_closing : {K D : Type 0} (m n : ℕ) (cause : machine.Cause) (old new : CoreState K D) → Closes m n cause old new → AsksKeeper [] (keeper_of old) (keeper_of new)
+asks_closing m n cause old new c = asks_nothing [] (keeper_of old) (keeper_of new) refl c.asks (closing_sealed old.state new.state m n cause c.moves.sent c.moves.stepped)
 
 -- a Close as it was asked for
 pub closed_as_asked : {K D : Type 0} (draws : D → Uuid → D → Type 0) (at s : ℕ) (cause : machine.Cause) (old new : CoreState K D) → Closes at s cause old new → IsEntered draws at (machine.Close s cause) old answer.Done new
@@ -265,12 +249,12 @@ abbrev pub opened_over : {K : Type 0} → KeptDatabase K → Live K
 opened_over d = record { database = d; sessions = none_open; watchers = []; waiting = record { untried = []; outstanding = [] }; outbox = record { frames = []; queues = [] }; tries = 0 }
 
 -- its state
-opened_over_state : {K : Type 0} (schema : Schema) (d : KeptDatabase K) → d.schema ≡ schema → d.sealed ≡ None → state_of (opened_over d) 0 ≡ machine.opening schema d.committed
+opened_over_state : {K : Type 0} (schema : Schema) (d : KeptDatabase K) → d.schema ≡ schema → d.sealed ≡ None → machine_state (opened_over d) 0 ≡ machine.opening schema d.committed
 opened_over_state schema d same unsealed =
-    ap (λ (v : Schema). record (state_of (opened_over d) 0) { schema = v }) same ∙ ap (λ (v : Option Database). record (machine.opening schema d.committed) { sealed = v }) unsealed
+    ap (λ (v : Schema). record (machine_state (opened_over d) 0) { schema = v }) same ∙ ap (λ (v : Option Database). record (machine.opening schema d.committed) { sealed = v }) unsealed
 
 -- the empty history is legal
-pub has_none : {K : Type 0} (d : KeptDatabase K) (kept : List Entry) → Suits d.schema d.committed → d.sealed ≡ None → kept ≡ [] → HasHistory (state_of (opened_over d) 0) kept
+pub has_none : {K : Type 0} (d : KeptDatabase K) (kept : List Entry) → Suits d.schema d.committed → d.sealed ≡ None → kept ≡ [] → HasHistory (machine_state (opened_over d) 0) kept
 has_none d kept suits unsealed none = record {
   schema = d.schema;
   database = d.committed;
@@ -283,7 +267,7 @@ has_none d kept suits unsealed none = record {
 }
 
 -- and the core has followed it
-pub follows_none : {K D : Type 0} (schema : Schema) (d : KeptDatabase K) (core : CoreState K D) → d.schema ≡ schema → d.sealed ≡ None → core.state ≡ state_of (opened_over d) 0 → core.kept ≡ [] → core.outbox ≡ [] → Follows (machine.opening schema d.committed) [] none_given core
+pub follows_none : {K D : Type 0} (schema : Schema) (d : KeptDatabase K) (core : CoreState K D) → d.schema ≡ schema → d.sealed ≡ None → core.state ≡ machine_state (opened_over d) 0 → core.kept ≡ [] → core.outbox ≡ [] → Follows (machine.opening schema d.committed) [] none_given core
 follows_none schema d core same unsealed is none nothing = record {
   sent = [];
   legal = ap (λ (s : State). Some (record { state = s; sent = [] })) (sym (is ∙ opened_over_state schema d same unsealed));

@@ -17,7 +17,7 @@ use Rattle.ov_core.specs.Counting.{RisesBy, CountsTries}
 
 -- ---- the work on a message
 
--- one attempt was made, whatever came of it
+-- one attempt was made, whatever its outcome
 pub rises_by_one : (o : Option machine.Outcome) (old new : ℕ) → new ≡ old + 1 → RisesBy o 1 old new
 rises_by_one None old new is = is
 rises_by_one (Some machine.NoMemory) old new is = (omega (arith, is), omega (arith, is))
@@ -25,7 +25,7 @@ rises_by_one (Some machine.Committed) old new is = is
 rises_by_one (Some machine.Exhausted) old new is = is
 rises_by_one (Some machine.Failed) old new is = is
 
--- none was made
+-- no attempt was made
 pub rises_by_none : (o : Option machine.Outcome) (old new : ℕ) → new ≡ old → RisesBy o 0 old new
 rises_by_none None old new is = omega (arith, is)
 rises_by_none (Some machine.NoMemory) old new is = (omega (arith, is), omega (arith, is))
@@ -33,7 +33,7 @@ rises_by_none (Some machine.Committed) old new is = omega (arith, is)
 rises_by_none (Some machine.Exhausted) old new is = omega (arith, is)
 rises_by_none (Some machine.Failed) old new is = omega (arith, is)
 
--- at most these were made
+-- the count rises by at most these attempts
 rises_most : (o : Option machine.Outcome) (attempts old new : ℕ) → RisesBy o attempts old new → new ≤ old + attempts
 rises_most None attempts old new is = omega (arith, is)
 rises_most (Some machine.NoMemory) attempts old new is = is.1

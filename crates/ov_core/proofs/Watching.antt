@@ -9,12 +9,12 @@ use Rattle.ov_sessions.specs.declared.session.Session.{Session}
 use Rattle.ov_specs.specs.machine.Machine as machine
 use Rattle.ov_specs.specs.machine.Machine.{State, session_watching}
 use Rattle.ov_specs.specs.monitors.Monitors.{Monitor}
-use Rattle.ov_core.specs.States.{sessions_of, still_open}
+use Rattle.ov_core.specs.States.{machine_sessions, still_open}
 
 -- ---- which are open
 
 -- a session is open if its serial is among those of the code
-pub any-serial : (w : Watching) (n : ℕ) (sessions : List Session) → list_any (λ (m : machine.Session). eqb m.serial n) (sessions_of w sessions) ≡ has_serial n sessions
+pub any-serial : (w : Watching) (n : ℕ) (sessions : List Session) → list_any (λ (m : machine.Session). eqb m.serial n) (machine_sessions w sessions) ≡ has_serial n sessions
 any-serial w n [] = refl
 any-serial w n (m ∷ sessions) = ap (λ b. eqb m.serial n || b) (any-serial w n sessions)
 
@@ -23,7 +23,7 @@ filter-same p q same [] = refl
 filter-same p q same (a ∷ xs) = ap (λ b. cond b (a ∷ filter p xs) (filter p xs)) (same a) ∙ ap (λ rest. cond (q a) (a ∷ rest) rest) (filter-same p q same xs)
 
 -- those that are left are the ones that are still open
-pub left-open : (s : State) (w : Watching) (old new : List Session) → s.sessions ≡ sessions_of w new → IsLeft old new → new ≡ still_open s old
+pub left-open : (s : State) (w : Watching) (old new : List Session) → s.sessions ≡ machine_sessions w new → IsLeft old new → new ≡ still_open s old
 left-open s w old new is left =
     left ∙ filter-same (λ n. has_serial n.serial new) (λ n. machine.is_open s n.serial)
     (λ n. sym (ap (λ (ms : List machine.Session). list_any (λ (m : machine.Session). eqb m.serial n.serial) ms) is ∙ any-serial w n.serial new)) old
@@ -31,27 +31,27 @@ left-open s w old new is left =
 -- ---- what they watch
 
 -- the same
-pub sessions-same : (a b : Watching) → SameWatching a b → (sessions : List Session) → sessions_of b sessions ≡ sessions_of a sessions
+pub sessions-same : (a b : Watching) → SameWatching a b → (sessions : List Session) → machine_sessions b sessions ≡ machine_sessions a sessions
 sessions-same a b same [] = refl
 sessions-same a b same (m ∷ sessions) =
-    ap (λ (ms : List Monitor). record { serial = m.serial; monitors = ms } ∷ sessions_of b sessions) (same m.serial)
+    ap (λ (ms : List Monitor). record { serial = m.serial; monitors = ms } ∷ machine_sessions b sessions) (same m.serial)
     ∙ ap (λ (rest : List machine.Session). record { serial = m.serial; monitors = monitors_at m.serial a } ∷ rest) (sessions-same a b same sessions)
 
 -- one of them watches something else
-pub sessions-watch : (n : ℕ) (monitors : List Monitor) (a b : Watching) → WatchesWith n monitors a b → (sessions : List Session) → sessions_of b sessions ≡ map (session_watching n monitors) (sessions_of a sessions)
+pub sessions-watch : (n : ℕ) (monitors : List Monitor) (a b : Watching) → WatchesWith n monitors a b → (sessions : List Session) → machine_sessions b sessions ≡ map (session_watching n monitors) (machine_sessions a sessions)
 sessions-watch n monitors a b watches [] = refl
 sessions-watch n monitors a b watches (m ∷ sessions) =
-    ap (λ (ms : List Monitor). record { serial = m.serial; monitors = ms } ∷ sessions_of b sessions) (watches m.serial)
+    ap (λ (ms : List Monitor). record { serial = m.serial; monitors = ms } ∷ machine_sessions b sessions) (watches m.serial)
     ∙ ap (λ (rest : List machine.Session). session_watching n monitors (record { serial = m.serial; monitors = monitors_at m.serial a }) ∷ rest) (sessions-watch n monitors a b watches sessions)
 
 -- what an open one watches
 pub monitors-of : (n : ℕ) (w : Watching) (sessions : List Session) → has_serial n sessions ≡ true
-    → unwrap_or (option_map (λ (m : machine.Session). m.monitors) (find (λ (m : machine.Session). eqb m.serial n) (sessions_of w sessions))) [] ≡ monitors_at n w
+    → unwrap_or (option_map (λ (m : machine.Session). m.monitors) (find (λ (m : machine.Session). eqb m.serial n) (machine_sessions w sessions))) [] ≡ monitors_at n w
 monitors-of n w [] there = absurd (false≢true there)
 monitors-of n w (m ∷ sessions) there = by (eqb m.serial n) refl (monitors-of n w sessions) there
   where
     rest : List machine.Session
-    rest = sessions_of w sessions
+    rest = machine_sessions w sessions
 
     by : (b : Bool) → eqb m.serial n ≡ b
         → (has_serial n sessions ≡ true → unwrap_or (option_map (λ (m : machine.Session). m.monitors) (find (λ (m : machine.Session). eqb m.serial n) rest)) [] ≡ monitors_at n w)
@@ -64,27 +64,27 @@ monitors-of n w (m ∷ sessions) there = by (eqb m.serial n) refl (monitors-of n
 
 -- one that is opened watches nothing
 pub sessions-opened : (session : Session) (next : ℕ) (a b : Watching) → session.serial ≡ next → WatchesWith session.serial [] a b → (sessions : List Session) → has_serial session.serial sessions ≡ false
-    → sessions_of b (sessions ++ session ∷ []) ≡ sessions_of a sessions ++ record { serial = next; monitors = [] } ∷ []
+    → machine_sessions b (sessions ++ session ∷ []) ≡ machine_sessions a sessions ++ record { serial = next; monitors = [] } ∷ []
 sessions-opened session next a b serial watches [] fresh =
     ap (λ (ms : List Monitor). record { serial = session.serial; monitors = ms } ∷ []) (watches session.serial ∙ ap (λ c. cond c [] (monitors_at session.serial a)) (eq-eqb session.serial session.serial refl))
     ∙ ap (λ n. record { serial = n; monitors = [] } ∷ []) serial
 sessions-opened session next a b serial watches (m ∷ sessions) fresh =
     let parts = or_parts (eqb m.serial session.serial) (has_serial session.serial sessions) fresh in
-    ap (λ (ms : List Monitor). record { serial = m.serial; monitors = ms } ∷ sessions_of b (sessions ++ session ∷ [])) (watches m.serial ∙ ap (λ c. cond c [] (monitors_at m.serial a)) parts.0)
+    ap (λ (ms : List Monitor). record { serial = m.serial; monitors = ms } ∷ machine_sessions b (sessions ++ session ∷ [])) (watches m.serial ∙ ap (λ c. cond c [] (monitors_at m.serial a)) parts.0)
     ∙ ap (λ (rest : List machine.Session). record { serial = m.serial; monitors = monitors_at m.serial a } ∷ rest) (sessions-opened session next a b serial watches sessions parts.1)
 
 -- one that is closed is left out
-pub sessions-without : (n : ℕ) (a b : Watching) → WatchesWith n [] a b → (sessions : List Session) → sessions_of b (without_serial n sessions) ≡ filter (λ (m : machine.Session). not (eqb m.serial n)) (sessions_of a sessions)
+pub sessions-without : (n : ℕ) (a b : Watching) → WatchesWith n [] a b → (sessions : List Session) → machine_sessions b (without_serial n sessions) ≡ filter (λ (m : machine.Session). not (eqb m.serial n)) (machine_sessions a sessions)
 sessions-without n a b watches [] = refl
 sessions-without n a b watches (m ∷ sessions) = by (eqb m.serial n) (watches m.serial) (sessions-without n a b watches sessions)
   where
-    by : (c : Bool) → monitors_at m.serial b ≡ cond c [] (monitors_at m.serial a) → sessions_of b (without_serial n sessions) ≡ filter (λ (m : machine.Session). not (eqb m.serial n)) (sessions_of a sessions)
-        → sessions_of b (cond (not c) (m ∷ without_serial n sessions) (without_serial n sessions))
-        ≡ cond (not c) (record { serial = m.serial; monitors = monitors_at m.serial a } ∷ filter (λ (m : machine.Session). not (eqb m.serial n)) (sessions_of a sessions)) (filter (λ (m : machine.Session). not (eqb m.serial n)) (sessions_of a sessions))
+    by : (c : Bool) → monitors_at m.serial b ≡ cond c [] (monitors_at m.serial a) → machine_sessions b (without_serial n sessions) ≡ filter (λ (m : machine.Session). not (eqb m.serial n)) (machine_sessions a sessions)
+        → machine_sessions b (cond (not c) (m ∷ without_serial n sessions) (without_serial n sessions))
+        ≡ cond (not c) (record { serial = m.serial; monitors = monitors_at m.serial a } ∷ filter (λ (m : machine.Session). not (eqb m.serial n)) (machine_sessions a sessions)) (filter (λ (m : machine.Session). not (eqb m.serial n)) (machine_sessions a sessions))
     by true is rest = rest
     by false is rest = rw (is, rest) refl
 
 -- as many sessions are open
-pub length-sessions : (w : Watching) (sessions : List Session) → length (sessions_of w sessions) ≡ length sessions
+pub length-sessions : (w : Watching) (sessions : List Session) → length (machine_sessions w sessions) ≡ length sessions
 length-sessions w [] = refl
 length-sessions w (m ∷ sessions) = ap suc (length-sessions w sessions)

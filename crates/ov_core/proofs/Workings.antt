@@ -33,10 +33,12 @@ use Rattle.ov_core.specs.declared.attempt.Trial.TheVariants.{Done}
 use Rattle.ov_history.specs.declared.event.Outcome.{Outcome}
 use Rattle.ov_history.specs.declared.event.Outcome.TheVariants as outcome
 use Rattle.ov_core.specs.declared.live.Live.{Live}
+use Rattle.ov_history.specs.Entries.{listed_of}
 use Rattle.ov_core.specs.Leaving.{LeavesItsOwn}
 use Rattle.ov_core.specs.Preparing.{outcome_after}
-use Rattle.ov_core.specs.Handling.{AsksStore, PostsIfRoom, with_db, listed_of, TrialRequest, TrialState, IsCompleted, IsTrial, Stays, WorkIsDone, WorksWith, work_at, HasSameRest, WaitsIfRoom, CancelsIfRoom}
-use Rattle.ov_core.specs.States.{state_of, sessions_of}
+use Rattle.ov_core.specs.Asking.{AsksStore}
+use Rattle.ov_core.specs.Handling.{PostsIfRoom, with_db, TrialRequest, TrialState, IsCompleted, IsTrial, Stays, WorkIsDone, WorksWith, work_at, HasSameRest, WaitsIfRoom, CancelsIfRoom}
+use Rattle.ov_core.specs.States.{machine_state, machine_sessions}
 use Rattle.ov_core.proofs.Watching.{sessions-same, sessions-watch}
 
 -- nothing is sent if the same frames wait
@@ -133,16 +135,16 @@ module _ {K : Type 0} (m n : ℕ) (id : Data) (draws : List Uuid) (operations : 
     abbrev new : Live K
     new = record old { database = db; outbox = outbox; tries = tries }
 
-    same_queues : with_db (state_of old m) db ≡ state_of new m
+    same_queues : with_db (machine_state old m) db ≡ machine_state new m
     same_queues = rw queues refl
 
-    over : {o : Option Outcome} (c : IsCompleted (request (sessions_of old.watchers old.sessions.open_sessions) n id on) (trial_state old.database old.outbox.frames) o (trial_state db outbox.frames))
-        → machine.when (eqb (length draws) (draws_wanted operations)) (does (state_of old m) n draws (listed_of o) (Transact id operations)) ≡ Some (record { state = with_db (state_of old m) db; sent = c.sent })
-    over {o} c = rw (eq-eqb (length draws) (draws_wanted operations) many, c.is) (c.comes (state_of old m) refl)
+    over : {o : Option Outcome} (c : IsCompleted (request (machine_sessions old.watchers old.sessions.open_sessions) n id on) (trial_state old.database old.outbox.frames) o (trial_state db outbox.frames))
+        → machine.when (eqb (length draws) (draws_wanted operations)) (does (machine_state old m) n draws (listed_of o) (Transact id operations)) ≡ Some (record { state = with_db (machine_state old m) db; sent = c.sent })
+    over {o} c = rw (eq-eqb (length draws) (draws_wanted operations) many, c.is) (c.comes (machine_state old m) refl)
 
     tried_work : (o : Option Outcome)
-        → works (state_of old m) n draws (listed_of o) (Transact id operations) ≡ machine.when (eqb (length draws) (draws_wanted operations)) (does (state_of old m) n draws (listed_of o) (Transact id operations))
-        → IsCompleted (request (sessions_of old.watchers old.sessions.open_sessions) n id on) (trial_state old.database old.outbox.frames) o (trial_state db outbox.frames)
+        → works (machine_state old m) n draws (listed_of o) (Transact id operations) ≡ machine.when (eqb (length draws) (draws_wanted operations)) (does (machine_state old m) n draws (listed_of o) (Transact id operations))
+        → IsCompleted (request (machine_sessions old.watchers old.sessions.open_sessions) n id on) (trial_state old.database old.outbox.frames) o (trial_state db outbox.frames)
         → WorkIsDone (work_at m n (Transact id operations) draws) old o new
     tried_work o is c = record {
       sent = c.sent;
@@ -153,7 +155,7 @@ module _ {K : Type 0} (m n : ℕ) (id : Data) (draws : List Uuid) (operations : 
       kept = λ h. refl;
     }
 
-    pub trial_works : (o : Option Outcome) → IsTrial (request (sessions_of old.watchers old.sessions.open_sessions) n id on) (trial_state old.database old.outbox.frames) (Done o) (trial_state db outbox.frames) → WorksWith (work_at m n (Transact id operations) draws) old o new
+    pub trial_works : (o : Option Outcome) → IsTrial (request (machine_sessions old.watchers old.sessions.open_sessions) n id on) (trial_state old.database old.outbox.frames) (Done o) (trial_state db outbox.frames) → WorksWith (work_at m n (Transact id operations) draws) old o new
     trial_works (Some outcome.NoMemory) (same, silent) = (
       omega (arith, many),
       record {
@@ -170,7 +172,7 @@ module _ {K : Type 0} (m n : ℕ) (id : Data) (draws : List Uuid) (operations : 
 
   -- one that is blocked, which leaves the waiting frames as they are
   pub wait_works : (outbox : Outbox) (tries : ℕ) (timeout : Option ℕ) (o : Option Outcome) (new : Live K) → outbox.queues ≡ old.outbox.queues → HasSameFrames old.outbox.frames outbox.frames → on ≡ Waits timeout
-      → WaitsIfRoom (machine.arrived (state_of old m) n id draws operations) timeout (record old { outbox = outbox; tries = tries }) o new → WorksWith (work_at m n (Transact id operations) draws) old o new
+      → WaitsIfRoom (machine.arrived (machine_state old m) n id draws operations) timeout (record old { outbox = outbox; tries = tries }) o new → WorksWith (work_at m n (Transact id operations) draws) old o new
   wait_works outbox tries timeout None new queues silent is waits = rw waits (record {
     sent = [];
     works = rw (eq-eqb (length draws) (draws_wanted operations) many, is, queues) refl;
@@ -291,7 +293,7 @@ pub record SameLive {K : Type 0} (old new : Live K) : Type 0 where
   pub queues : new.outbox.queues ≡ old.outbox.queues
   pub frames : HasSameFrames old.outbox.frames new.outbox.frames
 
-same_state : {K : Type 0} (m : ℕ) (old mid : Live K) → SameLive old mid → state_of mid m ≡ state_of old m
+same_state : {K : Type 0} (m : ℕ) (old mid : Live K) → SameLive old mid → machine_state mid m ≡ machine_state old m
 same_state m old mid same = rw (same.same, same.queues, sessions-same old.watchers mid.watchers same.watching old.sessions.open_sessions) refl
 
 -- work that is done then is done from before

@@ -1,5 +1,5 @@
 -- Which histories a core has followed, and which of their frames were handed out.
-use Rattle.std.specs.Prelude.{◌≡◌, ℕ, ◌+◌, ◌≤◌, ◌==◌, ◌++◌, List, [], ◌∷◌, if◌then◌else◌, true, false, is_some, Option, Some, option_to_list}
+use Rattle.std.specs.Prelude.{◌≡◌, ℕ, ◌+◌, ◌≤◌, ◌==◌, ◌++◌, List, [], ◌∷◌, if◌then◌else◌, Option, Some, option_to_list}
 use Rattle.ov_specs.specs.machine.Machine as machine
 use Rattle.ov_specs.specs.machine.Machine.{State, Sent, opening}
 use Rattle.ov_specs.specs.machine.History.{run, frames_to}
@@ -8,8 +8,8 @@ use Rattle.ov_specs.specs.schema.SchemaTypes.{Schema}
 use Rattle.ov_history.specs.declared.event.Entry.{Entry}
 use Rattle.ov_sessions.specs.declared.session.Session.{Session}
 use Rattle.ov_history.specs.History.{Keeps, KeepsNewest}
-use Rattle.ov_keeper.specs.Keeping.{HasFailed}
 use Rattle.ov_outbox.specs.Frames.{WaitingFrames, waiting_for, PostsSent}
+use Rattle.ov_core.specs.Asking.{KeeperState, IsSealedForCause}
 use Rattle.ov_core.specs.Counting.{CountsAll, most_in}
 
 -- what contracts see of a core: its state, the open sessions with their keys in order of opening, the entries that it keeps,
@@ -24,6 +24,10 @@ pub record CoreState (K D : Type 0) : Type 0 where
   pub failures : ℕ
   pub source : D
   pub tries : ℕ
+
+-- its keeper, with the failures and the seal
+abbrev pub keeper_of : {K D : Type 0} → CoreState K D → KeeperState K
+keeper_of core = record { keeper = core.keeper; failures = core.failures; sealed = core.state.sealed }
 
 -- a core, and the clock that gives it its moments
 pub record Timed (K D C : Type 0) : Type 0 where
@@ -48,7 +52,7 @@ pub record CountsWork {K D : Type 0} (old : CoreState K D) (entries : List machi
   pub tries : CountsAll old.state entries old.tries new.state new.tries
   pub few : new.tries ≤ old.tries + most_in old.state entries
   pub failures : old.failures ≤ new.failures
-  pub seal : is_some old.state.sealed ≡ false → is_some new.state.sealed ≡ true → HasFailed old.failures new.failures
+  pub seal : IsSealedForCause (keeper_of old) (keeper_of new)
 
 -- If the core has followed a history and frames, it follows that history with these entries appended, and no frame is handed
 -- out. The newest of the entries kept before and of these are kept, and the work on these is counted.

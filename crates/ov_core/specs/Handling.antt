@@ -1,5 +1,5 @@
 -- The results of the work on a message and of a try of a transaction: those of the machine.
-use Rattle.std.specs.Prelude.{◌≡◌, ◌⊎◌, ◌==◌, ℕ, ◌<◌, ◌≤◌, List, [], ◌∷◌, ◌++◌, length, filter, not, codes, true, false, is_some, Option, Some, None, option_map}
+use Rattle.std.specs.Prelude.{◌≡◌, ◌⊎◌, ◌==◌, ℕ, ◌<◌, ◌≤◌, List, [], ◌∷◌, ◌++◌, length, filter, not, codes, true, false, Option, Some, None}
 use Rattle.serde_json.specs.Data.{Data, Items}
 use Rattle.ov_specs.specs.wire.Frame.{failure_tree}
 use Rattle.ov_specs.specs.wire.Message.{Message}
@@ -9,13 +9,12 @@ use Rattle.ov_specs.specs.operations.Transaction.{TransactionOutcome, Completes,
 use Rattle.ov_specs.specs.rows.Database.{Database}
 use Rattle.ov_specs.specs.values.Uuid.{Uuid}
 use Rattle.ov_db.specs.KeptDatabase.{KeptDatabase}
-use Rattle.ov_keeper.specs.Keeping.{HasFailed}
 use Rattle.ov_outbox.specs.Frames.{WaitingFrames, PostsSent, HasSameFrames}
 use Rattle.ov_outbox.specs.Outbox.{Outbox}
 use Rattle.ov_requests.specs.Waiting.{many, most_outstanding, has_text}
 use Rattle.ov_watch.specs.Watching.{monitors_at}
-use Rattle.ov_history.specs.Entries.{outcome_view, is_kept, is_of_store, is_failure, some_outcome}
-use Rattle.ov_core.specs.States.{state_of}
+use Rattle.ov_history.specs.Entries.{listed_of}
+use Rattle.ov_core.specs.States.{machine_state}
 use Rattle.ov_core.specs.declared.attempt.Trial.{Trial}
 use Rattle.ov_core.specs.declared.attempt.Trial.TheVariants.{Done, Blocked}
 use Rattle.ov_history.specs.declared.event.Outcome.{Outcome}
@@ -33,30 +32,7 @@ PostsIfRoom sent old (Some outcome.Committed) new = ⊥
 PostsIfRoom sent old (Some outcome.Exhausted) new = ⊥
 PostsIfRoom sent old (Some outcome.Failed) new = ⊥
 
--- ---- the store
-
--- What an attempt leaves of the database, by its listed outcome: if the store failed, its device has; if it answered
--- otherwise, the seal is unchanged; if it was not asked, the database and its keeper are as before.
-abbrev pub AsksStore : {K : Type 0} → (K → ℕ) → Option Outcome → KeptDatabase K → KeptDatabase K → Type 0
-AsksStore failed (Some outcome.Failed) old new = HasFailed (failed old.keeper) (failed new.keeper)
-AsksStore failed (Some outcome.Committed) old new = new.sealed ≡ old.sealed
-AsksStore failed (Some outcome.Exhausted) old new = new.sealed ≡ old.sealed
-AsksStore failed (Some outcome.NoMemory) old new = new ≡ old
-AsksStore failed None old new = new ≡ old
-
--- What attempts leave of the database, by their listed outcomes: without an answer of the store the keeper is as before; if
--- the store failed, or the database became sealed, there is a cause.
-pub record AsksAll {K : Type 0} (failed : K → ℕ) (attempts : List machine.Attempt) (old new : KeptDatabase K) : Type 0 where
-  pub unasked : some_outcome is_of_store attempts ≡ false → new.keeper ≡ old.keeper
-  pub failure : some_outcome is_failure attempts ≡ true → HasFailed (failed old.keeper) (failed new.keeper)
-  pub seal : is_some old.sealed ≡ false → is_some new.sealed ≡ true → HasFailed (failed old.keeper) (failed new.keeper)
-  pub counts : failed old.keeper ≤ failed new.keeper
-
 -- ---- a try
-
--- what is listed of an attempt
-abbrev pub listed_of : Option Outcome → Option machine.Outcome
-listed_of o = option_map outcome_view o
 
 -- the state with this database
 abbrev pub with_db : {K : Type 0} → State → KeptDatabase K → State
@@ -101,7 +77,7 @@ outcome_in (Blocked timeout) = None
 -- if the message asks for a transaction, there is room for it to wait
 abbrev pub HasRoomToWait : {K : Type 0} → ℕ → ℕ → Message → Live K → Type 0
 HasRoomToWait moment session message live =
-    (id : Data) (operations : Items) → work_of (state_of live moment) session message ≡ Transact id operations → many live.waiting < most_outstanding
+    (id : Data) (operations : Items) → work_of (machine_state live moment) session message ≡ Transact id operations → many live.waiting < most_outstanding
 
 -- Nothing is changed but the count of attempts and what this session watches, and the same frames wait.
 pub record Stays {K : Type 0} (session : ℕ) (old new : Live K) : Type 0 where
@@ -125,11 +101,11 @@ work_at moment session work draws = record { moment = moment; session = session;
 -- the same transactions wait.
 pub record WorkIsDone {K : Type 0} (asked : WorkRequest) (old : Live K) (o : Option Outcome) (new : Live K) : Type 0 where
   pub sent : List Sent
-  pub works : works (state_of old asked.moment) asked.session asked.draws (listed_of o) asked.work ≡ Some (record { state = state_of new asked.moment; sent = sent })
+  pub works : works (machine_state old asked.moment) asked.session asked.draws (listed_of o) asked.work ≡ Some (record { state = machine_state new asked.moment; sent = sent })
   pub posts : PostsSent sent old.outbox.frames new.outbox.frames
   pub sessions : new.sessions ≡ old.sessions
   pub untried : new.waiting.untried ≡ old.waiting.untried
-  pub kept : is_kept o ≡ true → new.waiting ≡ old.waiting
+  pub kept : machine.is_kept (listed_of o) ≡ true → new.waiting ≡ old.waiting
 
 -- The work was done; or an allocation failed, no more was drawn than the work needs, and nothing else is changed.
 abbrev pub WorksWith : {K : Type 0} → WorkRequest → Live K → Option Outcome → Live K → Type 0

@@ -39,8 +39,8 @@ module _ {K D : Type 0} (k : Ghosts K) (draws : D → Uuid → D → Type 0) (ke
     pub opens : OpensDatabase (record { schema = schema; committed = core.state.database; sealed = None; keeper = core.keeper }) core.source
     pub found : k.is_honest core.keeper → (held : Stored) → k.leaves core.keeper held → held ≡ stored_of schema core.state.database
 
-  -- No core was opened, for the refusal of an open with a conversion or without one, as above, or for a fault of the keeper's
-  -- own. Another text than the schema's is no refusal of an open without a conversion.
+  -- No core was opened: an open with or without a conversion, as above, was refused, or the keeper had a fault of its own.
+  -- Without a conversion the fault is not `SchemaDiffers`: that one leads to a conversion.
   pub record RefusesCore (refused : RefusedOpen K) : Type 0 where
     pub schema_is : refused.schema ≡ schema
     pub version : Option Uuid
@@ -50,7 +50,7 @@ module _ {K D : Type 0} (k : Ghosts K) (draws : D → Uuid → D → Type 0) (ke
     pub kinds : IsFaultAs version refused.fault
     pub plain : version ≡ None → refused.fault ≢ SchemaDiffers
     pub fault : k.is_honest refused.keeper → (held : Stored) → k.leaves keeper held → TellsRefusal (opens_as schema version held) refused.fault
-    -- a failure of the device has a cause: the keeper's count rose in this call, or was already at its maximum
+    -- if the device failed, the keeper's count of failures rose in this call, or was at its maximum before
     pub cause : refused.fault ≡ Keeping Device → HasFailed (k.failed keeper) (k.failed refused.keeper)
     pub counts : k.failed keeper ≤ k.failed refused.keeper
     pub left : k.is_honest refused.keeper → LeavesUnopened (k.leaves keeper) (k.leaves refused.keeper) (opens_as schema version) schema refused.fault

@@ -6,7 +6,7 @@ use Rattle.ov_db.specs.Changing.{Delta, applied}
 use Rattle.ov_db.specs.KeptDatabase.{KeptDatabase}
 use Rattle.ov_db.specs.declared.answer.StoreAnswer.{StoreAnswer}
 use Rattle.ov_db.specs.declared.answer.StoreAnswer.TheVariants as store
-use Rattle.ov_outbox.specs.Frames.{WaitingFrames, PostsFrame, PostsSent, HasSameFrames, places_for, count_of, posted}
+use Rattle.ov_outbox.specs.Frames.{WaitingFrames, PostsFrame, PostsSent, HasSameFrames, places_for, count_for, posted}
 use Rattle.ov_specs.specs.wire.Frame.{frame, reply_tree}
 use Rattle.ov_specs.specs.machine.Machine.{Sent, to_session, updates_sent}
 use Rattle.ov_specs.specs.monitors.Updates.{all_updates, update_notification}
@@ -16,7 +16,7 @@ use Rattle.ov_specs.specs.operations.Transaction.{and_item}
 use Rattle.ov_txn.specs.declared.ready.Replies.{Replies}
 use Rattle.ov_txn.specs.declared.tried.Tried.{Tried}
 use Rattle.ov_txn.specs.declared.tried.Tried.TheVariants.{Answer, Stored, Blocked, NoMemory}
-use Rattle.ov_core.specs.States.{sessions_of}
+use Rattle.ov_core.specs.States.{machine_sessions}
 use Rattle.ov_history.specs.declared.event.Outcome.{Outcome}
 use Rattle.ov_history.specs.declared.event.Outcome.TheVariants as outcome
 use Rattle.ov_core.specs.declared.frames.Frames.{Frames}
@@ -37,24 +37,25 @@ HasPrepared frames old false new = Unit {0}
 pub record PreparesFrames (frames : List (ℕ × List ℕ)) (old : Replying) (ready : Bool) (new : Replying) : Type 0 where
   pub prepared : HasPrepared frames old ready new
   pub waits : HasSameFrames old.queues new.queues
-  pub places : (other base : ℕ) → places_for other old.queues ≡ base + count_of other old.prepared → places_for other new.queues ≡ base + count_of other new.prepared
+  pub places : (other base : ℕ) → places_for other old.queues ≡ base + count_for other old.prepared → places_for other new.queues ≡ base + count_for other new.prepared
   pub same : new ≡ record old { queues = new.queues; prepared = new.prepared }
 
 -- the frames of what is to be sent are prepared, or an allocation failed
 abbrev pub PreparesMore : List Sent → Replying → Bool → Replying → Type 0
 PreparesMore sent old ready new = PreparesFrames (map posted sent) old ready new
 
--- the updates that the monitors of one session receive, and those of several, by their serials
+-- the updates that the monitors of one session receive, by its serial
 abbrev pub updates_to_one : Database → Database → Watching → ℕ → List Sent
 updates_to_one before after watching serial = to_session serial (map update_notification (all_updates before after (monitors_at serial watching)))
 
+-- those that the monitors of these sessions receive, session by session
 abbrev pub updates_to : Database → Database → Watching → List ℕ → List Sent
 updates_to before after watching serials = flat_map (updates_to_one before after watching) serials
 
 -- what is sent if a commit is kept: the updates, then the reply
 abbrev pub frames_of_commit : {K : Type 0} → Replying → KeptDatabase K → Delta → Items → List (ℕ × List ℕ)
 frames_of_commit old db delta results =
-    map posted (updates_sent db.committed (applied delta db.committed) (sessions_of old.audience.watchers.now old.audience.sessions.now.open_sessions))
+    map posted (updates_sent db.committed (applied delta db.committed) (machine_sessions old.audience.watchers.now old.audience.sessions.now.open_sessions))
     ++ (old.session, frame (reply_tree old.id.now (array results))) ∷ []
 
 -- all of it is prepared, and the other replies are at hand
@@ -72,7 +73,7 @@ IsPreparedWhere old db delta replies false new = Unit {0}
 pub record Prepares {K : Type 0} (old : Replying) (db : KeptDatabase K) (delta : Delta) (replies : Replies) (ready : Bool) (new : Replying) : Type 0 where
   pub prepared : IsPreparedWhere old db delta replies ready new
   pub waits : HasSameFrames old.queues new.queues
-  pub places : (other base : ℕ) → places_for other old.queues ≡ base + count_of other old.prepared → places_for other new.queues ≡ base + count_of other new.prepared
+  pub places : (other base : ℕ) → places_for other old.queues ≡ base + count_for other old.prepared → places_for other new.queues ≡ base + count_for other new.prepared
 
 -- ---- what an answer of the store leads to
 

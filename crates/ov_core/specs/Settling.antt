@@ -10,9 +10,9 @@ use Rattle.ov_sessions.specs.Sessions.{IsLeft, has_serial}
 use Rattle.ov_requests.specs.Waiting.{WaitingList, many}
 use Rattle.ov_history.specs.Entries.{attempt_view}
 use Rattle.ov_core.specs.Counting.{CountsTries}
-use Rattle.ov_core.specs.Handling.{AsksAll}
+use Rattle.ov_core.specs.Asking.{AsksKeeper, keeper_state}
 use Rattle.ov_core.specs.Sessions.{ClosesSession}
-use Rattle.ov_core.specs.States.{state_of}
+use Rattle.ov_core.specs.States.{machine_state}
 use Rattle.ov_history.specs.declared.event.Attempt.{Attempt}
 use Rattle.ov_history.specs.declared.event.Outcome.{Outcome}
 use Rattle.ov_history.specs.declared.event.Outcome.TheVariants as outcome
@@ -50,9 +50,9 @@ pub record SettlesSoFar {K : Type 0} (failed : K → ℕ) (moment first : ℕ) (
   pub made : List machine.Attempt
   pub lists : map attempt_view now.listed ≡ map attempt_view from.listed ++ made
   pub sent : List Sent
-  pub reaches : Reaches (state_of from.live moment) first made (at_point (state_of now.live moment) sent number now.live.waiting.untried)
+  pub reaches : Reaches (machine_state from.live moment) first made (at_point (machine_state now.live moment) sent number now.live.waiting.untried)
   pub posts : PostsSent sent from.live.outbox.frames now.live.outbox.frames
-  pub asks : AsksAll failed made from.live.database now.live.database
+  pub asks : AsksKeeper made (keeper_state failed from.live.database) (keeper_state failed now.live.database)
   pub left : IsLeft from.live.sessions.open_sessions now.live.sessions.open_sessions
   pub tries : now.live.tries + first ≡ from.live.tries + number
   -- so the number never exceeds that of a first try and one for each pair of those that waited
@@ -65,9 +65,9 @@ pub record SettlesAll {K : Type 0} (failed : K → ℕ) (moment first : ℕ) (ol
   pub lists : map attempt_view new.listed ≡ map attempt_view old.listed ++ made
   pub sent : List Sent
   pub next : ℕ
-  pub settles : settle (state_of old.live moment) first made ≡ Some (record { tried = record { stepped = record { state = state_of new.live moment; sent = sent }; others = [] }; next = next; has_changed = false })
+  pub settles : settle (machine_state old.live moment) first made ≡ Some (record { tried = record { stepped = record { state = machine_state new.live moment; sent = sent }; others = [] }; next = next; has_changed = false })
   pub posts : PostsSent sent old.live.outbox.frames new.live.outbox.frames
-  pub asks : AsksAll failed made old.live.database new.live.database
+  pub asks : AsksKeeper made (keeper_state failed old.live.database) (keeper_state failed new.live.database)
   pub left : IsLeft old.live.sessions.open_sessions new.live.sessions.open_sessions
   -- each try is counted
   pub tries : new.live.tries ≡ old.live.tries + (next - first)
@@ -80,9 +80,9 @@ choice_of moment draws attempts = record { moment = moment; draws = draws; outco
 -- The result of an event with this choice.
 pub record ComesTo {K : Type 0} (failed : K → ℕ) (choice : machine.Choice) (event : machine.Event) (old new : Live K) : Type 0 where
   pub sent : List Sent
-  pub happens : machine.happens (state_of old choice.moment) choice event ≡ Some (record { state = state_of new choice.moment; sent = sent })
+  pub happens : machine.happens (machine_state old choice.moment) choice event ≡ Some (record { state = machine_state new choice.moment; sent = sent })
   pub posts : PostsSent sent old.outbox.frames new.outbox.frames
-  pub asks : AsksAll failed choice.outcomes old.database new.database
+  pub asks : AsksKeeper choice.outcomes (keeper_state failed old.database) (keeper_state failed new.database)
   pub left : IsLeft old.sessions.open_sessions new.sessions.open_sessions
-  pub tries : CountsTries (state_of old choice.moment) choice event old.tries new.tries
+  pub tries : CountsTries (machine_state old choice.moment) choice event old.tries new.tries
   pub untried : new.waiting.untried ≡ []

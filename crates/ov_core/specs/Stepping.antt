@@ -1,12 +1,11 @@
 -- What one step of a core promises.
-use Rattle.std.specs.Prelude.{◌≡◌, ◌⊎◌, ℕ, ◌+◌, ◌<◌, ◌≤◌, [], ◌∷◌, ◌++◌, length, Bool, true, false, Option, is_some}
+use Rattle.std.specs.Prelude.{◌≡◌, ◌⊎◌, ℕ, ◌+◌, ◌<◌, ◌≤◌, [], ◌∷◌, ◌++◌, length, Bool, true, false, Option}
 use Rattle.ov_specs.specs.machine.Machine as machine
 use Rattle.ov_specs.specs.machine.Machine.{State, is_open}
 use Rattle.ov_specs.specs.machine.Suiting.{draws_uuids}
 use Rattle.ov_specs.specs.values.Uuid.{Uuid}
-use Rattle.ov_keeper.specs.Keeping.{HasFailed}
 use Rattle.ov_requests.specs.Drawing.{DrawsFrom}
-use Rattle.ov_history.specs.Entries.{session_in, is_of_store, is_failure, some_outcome}
+use Rattle.ov_history.specs.Entries.{session_in}
 use Rattle.ov_history.specs.History.{newest}
 use Rattle.ov_history.specs.declared.event.Entry.{Entry}
 use Rattle.ov_history.specs.declared.event.StepFault.{StepFault}
@@ -16,7 +15,8 @@ use Rattle.ov_history.specs.declared.event.Stepped.TheVariants as answer
 use Rattle.ov_sessions.specs.Sessions.{most_sessions, has_no_room, IsFreeKey}
 use Rattle.ov_sessions.specs.declared.session.Session.{Session}
 use Rattle.ov_core.specs.States.{still_open}
-use Rattle.ov_core.specs.Following.{CoreState, EntersEntry}
+use Rattle.ov_core.specs.Asking.{AsksKeeper, HasSameKeeper}
+use Rattle.ov_core.specs.Following.{CoreState, EntersEntry, keeper_of}
 use Rattle.ov_outbox.specs.Frames.{waiting_for, has_queue}
 use Rattle.ov_core.specs.Counting.{CountsTries}
 use Rattle.ov_laws.specs.Attempts.{most_attempts}
@@ -42,22 +42,6 @@ abbrev pub KeepsKeys : {K D : Type 0} → CoreState K D → Stepped → CoreStat
 KeepsKeys old (answer.Opened session) new = IsFreeKey session.key old.open_sessions × (new.open_sessions ≡ old.open_sessions ++ session ∷ [])
 KeepsKeys old stepped new = new.open_sessions ≡ still_open new.state old.open_sessions
 
--- the keeper is as before, and no further failure is counted
-abbrev pub HasSameKeeper : {K D : Type 0} → CoreState K D → CoreState K D → Type 0
-HasSameKeeper old new = (new.keeper ≡ old.keeper) × (new.failures ≡ old.failures)
-
--- some attempt of the entry has such an outcome
-abbrev pub has_outcome : (machine.Outcome → Bool) → machine.Entry → Bool
-has_outcome test entry = some_outcome test entry.choice.outcomes
-
--- If the entry has no answer of the store, the keeper is as before. If the store failed, or the database became sealed, there
--- is a cause: the device has failed.
-pub record AsksKeeper {K D : Type 0} (old : CoreState K D) (entry : machine.Entry) (new : CoreState K D) : Type 0 where
-  pub unasked : has_outcome is_of_store entry ≡ false → HasSameKeeper old new
-  pub failure : has_outcome is_failure entry ≡ true → HasFailed old.failures new.failures
-  pub seal : is_some old.state.sealed ≡ false → is_some new.state.sealed ≡ true → HasFailed old.failures new.failures
-  pub counts : old.failures ≤ new.failures
-
 -- One entry was appended to those that were kept, and the newest of all are kept. It has this session, key and serial, or none.
 pub record AppendsEntry {K D : Type 0} (session : Option Session) (old new : CoreState K D) : Type 0 where
   pub entry : Entry
@@ -80,7 +64,7 @@ pub record IsEntered {K D : Type 0} (draws : D → Uuid → D → Type 0) (at : 
   pub drawn : DrawsFrom draws old.source entry.choice.draws new.source
   pub uuids : draws_uuids entry ≡ true
   pub moves : EntersEntry old entry new
-  pub asks : AsksKeeper old entry new
+  pub asks : AsksKeeper entry.choice.outcomes (keeper_of old) (keeper_of new)
   -- each attempt is counted, and there are few
   pub tries : CountsTries (at_moment_of entry old.state) entry.choice entry.event old.tries new.tries
   pub few : new.tries ≤ old.tries + most_attempts entry.event (length old.state.outstanding)
@@ -112,6 +96,6 @@ pub record Closes {K D : Type 0} (at session : ℕ) (cause : machine.Cause) (old
   pub shut : is_open new.state session ≡ false
   pub keys : new.open_sessions ≡ still_open new.state old.open_sessions
   pub drawn : new.source ≡ old.source
-  pub asks : HasSameKeeper old new
+  pub asks : HasSameKeeper (keeper_of old) (keeper_of new)
   pub tries : new.tries ≡ old.tries
   pub forgotten : waiting_for session old.outbox ≡ [] → has_queue session new.outbox ≡ false

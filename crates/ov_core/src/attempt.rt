@@ -1,11 +1,12 @@
 ghost use Rattle.std.specs.Prelude.{◌≡◌, ◌≤◌, ◌+◌, ℕ};
-ghost use Rattle.ov_outbox.specs.Frames.{TakesPlaces, places_for, count_of};
+ghost use Rattle.ov_outbox.specs.Frames.{TakesPlaces, places_for, count_for};
 ghost use Rattle.ov_specs.specs.locks.Queues.{owns};
 ghost use Rattle.ov_specs.specs.machine.Machine.{results_to};
 ghost use Rattle.ov_specs.specs.operations.Transaction.{transaction};
-ghost use Rattle.ov_core.specs.Handling.{AsksStore, IsTrial, PostsIfRoom, outcome_in};
+ghost use Rattle.ov_core.specs.Asking.{AsksStore};
+ghost use Rattle.ov_core.specs.Handling.{IsTrial, PostsIfRoom, outcome_in};
 ghost use Rattle.ov_core.specs.Preparing.{SendsPrepared, outcome_after};
-ghost use Rattle.ov_core.specs.States.{sessions_of};
+ghost use Rattle.ov_core.specs.States.{machine_sessions};
 
 use crate::owner::Owner;
 use crate::replying::{Audience, Replying};
@@ -52,7 +53,7 @@ pub(crate) fn try_once<K: Keeper + Drop>(
 ) -> Trial
     ensures tried { IsTrial
         (record {
-          sessions = sessions_of audience.entry.watchers.now
+          sessions = machine_sessions audience.entry.watchers.now
               audience.entry.sessions.now.open_sessions;
           session = asked.entry.session;
           id = asked.entry.id.now;
@@ -97,7 +98,7 @@ pub(crate) fn try_once<K: Keeper + Drop>(
 
 /// Sends what was prepared according to the store's answer, or gives it up if the store was not asked. Allocates nothing.
 fn send_prepared(replying: Replying<'_>, tried: &Tried) -> FrameQueues
-    requires room { (other : ℕ) → count_of other replying.prepared
+    requires room { (other : ℕ) → count_for other replying.prepared
         ≤ places_for other replying.queues }
     ensures places { TakesPlaces replying.entry.prepared replying.entry.queues result }
     ensures sent { SendsPrepared tried.now replying.entry.prepared replying.entry.exhausted

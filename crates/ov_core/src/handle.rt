@@ -10,12 +10,14 @@ ghost use Rattle.ov_requests.specs.Asked.{IsWork, IsWithoutDraws};
 ghost use Rattle.ov_requests.specs.Drawing.{DrawsFrom};
 ghost use Rattle.ov_requests.specs.Waiting.{many, most_outstanding};
 ghost use Rattle.ov_sessions.specs.Sessions.{has_serial};
+ghost use Rattle.ov_history.specs.Entries.{listed_of};
 ghost use Rattle.ov_laws.specs.Attempts.{own_attempts};
 ghost use Rattle.ov_core.specs.Counting.{RisesBy};
-ghost use Rattle.ov_core.specs.Handling.{AsksStore, HasRoomToWait, Works, WorksWith, HasSameRest};
-ghost use Rattle.ov_core.specs.Handling.{WaitsIfRoom, CancelsIfRoom, listed_of, work_at};
+ghost use Rattle.ov_core.specs.Asking.{AsksStore};
+ghost use Rattle.ov_core.specs.Handling.{HasRoomToWait, Works, WorksWith, HasSameRest};
+ghost use Rattle.ov_core.specs.Handling.{WaitsIfRoom, CancelsIfRoom, work_at};
 ghost use Rattle.ov_core.specs.Settling.{ComesTo, choice_of};
-ghost use Rattle.ov_core.specs.States.{state_of};
+ghost use Rattle.ov_core.specs.States.{machine_state};
 
 use crate::attempt::{Asked, Trial, try_once};
 use crate::live::Live;
@@ -77,7 +79,7 @@ impl<K: Keeper + Drop> Live<K> {
         attempts: &mut Vec<Attempt>,
     ) -> Vec<Uuid>
         requires untried { self.old.waiting.untried ≡ [] }
-        requires open { spec.is_open (state_of self.old moment) session ≡ true }
+        requires open { spec.is_open (machine_state self.old moment) session ≡ true }
         requires none { attempts.old.items ≡ [] }
         requires room { length self.old.waiting.outstanding < vec_capacity attempts.old }
         requires waits { (message : Message) × StandsFor incoming message
@@ -113,11 +115,11 @@ impl<K: Keeper + Drop> Live<K> {
         incoming: Incoming,
         source: &mut D,
     ) -> Handled
-        requires open { spec.is_open (state_of self.old moment) session ≡ true }
+        requires open { spec.is_open (machine_state self.old moment) session ≡ true }
         requires waits { (message : Message) × StandsFor incoming message
             × HasRoomToWait moment session message self.old }
         ensures works { (message : Message) → StandsFor incoming message
-            → Works moment session (spec.work_of (state_of self.old moment) session message)
+            → Works moment session (spec.work_of (machine_state self.old moment) session message)
             self.old result self.new }
         ensures asks { AsksStore K.failed result.outcome self.old.database self.new.database }
         ensures counts { K.failed self.old.database.keeper ≤ K.failed self.new.database.keeper }
@@ -127,7 +129,7 @@ impl<K: Keeper + Drop> Live<K> {
         ensures uuids { list_all is_uuid result.draws.items ≡ true }
         ensures tries { (message : Message) → StandsFor incoming message
             → RisesBy (listed_of result.outcome)
-            (own_attempts (spec.work_of (state_of self.old moment) session message))
+            (own_attempts (spec.work_of (machine_state self.old moment) session message))
             self.old.tries self.new.tries }
     {
         let schema = self.database.schema();
@@ -147,7 +149,7 @@ impl<K: Keeper + Drop> Live<K> {
         requires open { has_serial session self.old.sessions.open_sessions ≡ true }
         requires undrawn { IsWithoutDraws work }
         ensures works { (moment : ℕ) (asked : spec.Work)
-            → IsWork (state_of self.old moment) session asked work
+            → IsWork (machine_state self.old moment) session asked work
             → WorksWith (work_at moment session asked []) self.old result self.new }
         ensures rest { HasSameRest self.old result self.new }
     {
@@ -226,8 +228,8 @@ impl<K: Keeper + Drop> Live<K> {
     ) -> Handled
         requires { many self.old.waiting < most_outstanding }
         ensures waits { WaitsIfRoom
-            (spec.arrived (state_of self.old moment) session id txn.draws txn.operations) timeout
-            self.old result.outcome self.new }
+            (spec.arrived (machine_state self.old moment) session id txn.draws txn.operations)
+            timeout self.old result.outcome self.new }
         ensures database { self.new.database ≡ self.old.database }
         ensures draws { result.draws.items ≡ txn.draws }
     {

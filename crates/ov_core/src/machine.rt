@@ -50,14 +50,14 @@ impl<K: Keeper, D> Model for Core<K, D> {
     ghost use Rattle.ov_rows.specs.Resident.{database_code};
     ghost use Rattle.ov_core.specs.Following.{CoreState};
     ghost use Rattle.ov_history.specs.History.{HasHistory};
-    ghost use Rattle.ov_core.specs.States.{state_of};
+    ghost use Rattle.ov_core.specs.States.{machine_state};
 
     ghost Value = { CoreState K D };
 
     ghost coded = { Prim.hlevel (codes, schema_code, database_code, tree_code, items_code, monitor_code, K.code, D.code) };
 
     ghost view = { λ c. record {
-      state = state_of c.live c.moment;
+      state = machine_state c.live c.moment;
       open_sessions = c.live.sessions.open_sessions;
       kept = c.history;
       outbox = c.live.outbox.frames;
@@ -67,7 +67,7 @@ impl<K: Keeper, D> Model for Core<K, D> {
       tries = c.live.tries;
     } };
 
-    ghost invariant = { λ c. HasHistory (state_of c.live c.moment) c.history
+    ghost invariant = { λ c. HasHistory (machine_state c.live c.moment) c.history
         × (c.live.waiting.untried ≡ []) };
 }
 

@@ -3,7 +3,7 @@ ghost use Rattle.ov_db.specs.Changing.{applied};
 ghost use Rattle.ov_specs.specs.machine.Machine.{updates_sent, to_session};
 ghost use Rattle.ov_specs.specs.monitors.Updates.{update_notification};
 ghost use Rattle.ov_core.specs.Preparing.{PreparesFrames, PreparesMore, updates_to_one};
-ghost use Rattle.ov_core.specs.States.{sessions_of};
+ghost use Rattle.ov_core.specs.States.{machine_sessions};
 
 use crate::frames::Frames;
 use ov_base::{Bytes, Tree, Trees};
@@ -118,7 +118,7 @@ impl<'a> Replying<'a> {
     fn prepare_updates<K: Keeper + Drop>(&mut self, db: &Db<K>, delta: &Delta) -> bool
         ensures { PreparesMore
             (updates_sent db.now.committed (applied delta.now db.now.committed)
-            (sessions_of self.old.audience.watchers.now
+            (machine_sessions self.old.audience.watchers.now
             self.old.audience.sessions.now.open_sessions))
             self.old result self.new }
     {

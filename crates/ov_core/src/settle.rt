@@ -3,9 +3,10 @@ ghost use Rattle.std.specs.Prelude.{vec_capacity};
 ghost use Rattle.ov_specs.specs.locks.Queues.{owns};
 ghost use Rattle.ov_specs.specs.operations.Transaction.{transaction};
 ghost use Rattle.ov_requests.specs.Waiting.{many};
-ghost use Rattle.ov_core.specs.Handling.{AsksStore, IsTrial, outcome_in};
+ghost use Rattle.ov_core.specs.Asking.{AsksStore};
+ghost use Rattle.ov_core.specs.Handling.{IsTrial, outcome_in};
 ghost use Rattle.ov_core.specs.Settling.{AfterTry, to_do, SettlingState, SettlesSoFar, SettlesAll};
-ghost use Rattle.ov_core.specs.States.{sessions_of};
+ghost use Rattle.ov_core.specs.States.{machine_sessions};
 
 use crate::attempt::{Asked, Trial, try_once};
 use crate::live::Live;
@@ -122,7 +123,7 @@ fn try_again<K: Keeper + Drop>(
 ) -> Trial
     ensures tried { IsTrial
         (record {
-          sessions = sessions_of audience.entry.watchers.now
+          sessions = machine_sessions audience.entry.watchers.now
               audience.entry.sessions.now.open_sessions;
           session = waits.now.session;
           id = waits.now.id;

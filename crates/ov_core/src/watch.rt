@@ -7,7 +7,7 @@ ghost use Rattle.ov_specs.specs.monitors.Monitors.{added, canceled};
 ghost use Rattle.ov_specs.specs.monitors.Updates.{initial_of};
 ghost use Rattle.ov_specs.specs.wire.Frame.{reply_tree};
 ghost use Rattle.ov_core.specs.Handling.{PostsIfRoom, WorksWith, HasSameRest, work_at};
-ghost use Rattle.ov_core.specs.States.{state_of};
+ghost use Rattle.ov_core.specs.States.{machine_state};
 
 use crate::live::Live;
 use crate::send::send;
@@ -34,7 +34,7 @@ impl<K: Keeper + Drop> Live<K> {
         ensures works { (moment : ℕ)
             → WorksWith
             (work_at moment session
-            (spec.monitor_work (state_of self.old moment) id name.now
+            (spec.monitor_work (machine_state self.old moment) id name.now
             (added self.old.database.schema (monitors_at session self.old.watchers) name.now
             requests.now))
             [])

@@ -3,6 +3,7 @@ use Rattle.std.proofs.Common.{◌≡◌, ◌≢◌, ℕ, ◌+◌, ◌≤◌, Lis
 use Rattle.std.specs.Prelude.{IsSome}
 use Rattle.std.proofs.lemmas.Bool.{false≢true}
 use Rattle.std.proofs.lemmas.List.{append-nil, length-append, take_all, take-append-drop}
+use Rattle.ov_specs.specs.values.Capped.{capped_to_64_bits}
 use Rattle.ov_specs.specs.wire.Beginning.{BeginsAs}
 use Rattle.ov_specs.specs.wire.Cut.{Cut, Damage, Stray, TooLong, cut, cut_from, with_messages, continue_cut, max_message}
 use Rattle.ov_specs.proofs.laws.Cuts.{cut_append}
@@ -10,7 +11,7 @@ use Rattle.ov_cut.specs.declared.fault.CutFault.{CutFault}
 use Rattle.ov_cut.specs.declared.fault.CutFault.TheVariants as fault
 use Rattle.ov_cut.specs.Message.{Brings}
 use Rattle.ov_cut.specs.Piece.{TakesPiece, with_fault}
-use Rattle.ov_cut.specs.CutterState.{CutterState, StandsFor, fault_of_damage, offset_in_64_bits}
+use Rattle.ov_cut.specs.CutterState.{CutterState, HasCut, fault_of_damage}
 
 pub told_none : (d : Option Damage) → fault_of_damage d ≡ None → d ≡ None
 told_none None h = refl
@@ -18,7 +19,7 @@ told_none (Some (Stray n)) h = cc
 told_none (Some TooLong) h = cc
 
 -- the cut of the stream with the piece, by that of the rest with the piece
-pub fed : (stream piece : List ℕ) (given : List (List ℕ)) (c : CutterState) → StandsFor stream given c → c.fault ≡ None → cut (stream ++ piece) ≡ with_messages given (cut_from max_message (length stream) c.rest piece)
+pub fed : (stream piece : List ℕ) (given : List (List ℕ)) (c : CutterState) → HasCut stream given c → c.fault ≡ None → cut (stream ++ piece) ≡ with_messages given (cut_from max_message (length stream) c.rest piece)
 unfolding cut
 fed stream piece given c s h =
     let d : (cut stream).damage ≡ None = told_none (cut stream).damage (s.fault ∙ h) in
@@ -51,10 +52,10 @@ begins_more a b c x y = (x.0 ++ y.0, sym (append_assoc a x.0 y.0) ∙ (ap (λ m.
 
 -- ---- a cutter with a fault
 
-pub stays_same : (stream piece : List ℕ) (given : List (List ℕ)) (c : CutterState) → IsSome c.fault → StandsFor stream given c → StandsFor (stream ++ piece) given c
+pub stays_same : (stream piece : List ℕ) (given : List (List ℕ)) (c : CutterState) → IsSome c.fault → HasCut stream given c → HasCut (stream ++ piece) given c
 stays_same stream piece given c some s = at_damage (cut stream).damage refl
   where
-    at_damage : (e : Option Damage) → (cut stream).damage ≡ e → StandsFor (stream ++ piece) given c
+    at_damage : (e : Option Damage) → (cut stream).damage ≡ e → HasCut (stream ++ piece) given c
     at_damage None h = absurd (let no : IsSome {T = CutFault} None = subst IsSome (sym s.fault ∙ ap fault_of_damage h) some in false≢true no)
     at_damage (Some d) h = let same = damaged_stays stream piece d h in record {
       messages = ap (λ (k : Cut). k.messages) same ∙ s.messages;
@@ -63,7 +64,7 @@ stays_same stream piece given c some s = at_damage (cut stream).damage refl
       place = λ none. absurd (let no : IsSome {T = CutFault} None = subst IsSome none some in false≢true no);
     }
 
-grows : (stream piece : List ℕ) (given : List (List ℕ)) (c : CutterState) → StandsFor stream given c → BeginsAs given (cut (stream ++ piece)).messages
+grows : (stream piece : List ℕ) (given : List (List ℕ)) (c : CutterState) → HasCut stream given c → BeginsAs given (cut (stream ++ piece)).messages
 grows stream piece given c s = subst (λ (ms : List (List ℕ)). BeginsAs ms (cut (stream ++ piece)).messages) s.messages (messages_grow stream piece)
 
 pub takes_none : (c : CutterState) (before : List (List ℕ)) → TakesPiece c before [] c before
@@ -86,7 +87,7 @@ module _ (old mid new : CutterState) (before between after : List (List ℕ)) (p
   over_later : IsSome mid.fault → (after ≡ between) × (new ≡ mid)
   over_later some = two.over some
 
-  then_memory : (stream : List ℕ) (given : List (List ℕ)) → StandsFor stream (given ++ before) old → (f : Option CutFault) → mid.fault ≡ f → BeginsAs (given ++ after) (cut ((stream ++ p) ++ q)).messages
+  then_memory : (stream : List ℕ) (given : List (List ℕ)) → HasCut stream (given ++ before) old → (f : Option CutFault) → mid.fault ≡ f → BeginsAs (given ++ after) (cut ((stream ++ p) ++ q)).messages
   then_memory stream given s None e = two.memory (stream ++ p) given (one.whole stream given s (λ m. cc))
   then_memory stream given s (Some why) e =
       let some : IsSome mid.fault = subst IsSome (sym e) refl in
@@ -97,7 +98,7 @@ module _ (old mid new : CutterState) (before between after : List (List ℕ)) (p
   takes_then = record {
     whole = λ stream given s enough.
         let goes : mid.fault ≢ Some fault.Memory = λ e. (let some : IsSome mid.fault = subst IsSome (sym e) refl in enough (ap (λ (c : CutterState). c.fault) (two.over some).1 ∙ e)) in
-        subst (λ t. StandsFor t (given ++ after) new) (append_assoc stream p q) (two.whole (stream ++ p) given (one.whole stream given s goes) enough);
+        subst (λ t. HasCut t (given ++ after) new) (append_assoc stream p q) (two.whole (stream ++ p) given (one.whole stream given s goes) enough);
     memory = λ stream given s. subst (λ t. BeginsAs (given ++ after) (cut t).messages) (append_assoc stream p q) (then_memory stream given s mid.fault refl);
     over = λ some.
         let o = one.over some in
@@ -118,10 +119,10 @@ module _ (c : CutterState) (before : List (List ℕ)) (piece : List ℕ) (h : c.
 
   -- where a stream's bytes are reported, by those before the rest
   abbrev pub Moves : List ℕ → CutterState → Type 0
-  Moves rest new = (begins : ℕ) → c.start ≡ offset_in_64_bits begins → (next : ℕ) × (next + length rest ≡ begins + (length c.rest + length piece)) × (new.start ≡ offset_in_64_bits next)
+  Moves rest new = (begins : ℕ) → c.start ≡ capped_to_64_bits begins → (next : ℕ) × (next + length rest ≡ begins + (length c.rest + length piece)) × (new.start ≡ capped_to_64_bits next)
 
   module _ (messages : List (List ℕ)) (rest : List ℕ) (new : CutterState) (brings : Brings c.rest piece messages rest) (same : new.rest ≡ rest) (sound : new.fault ≡ None) (moves : Moves rest new) where
-    takes_whole : (stream : List ℕ) (given : List (List ℕ)) → StandsFor stream (given ++ before) c → StandsFor (stream ++ piece) (given ++ (before ++ messages)) new
+    takes_whole : (stream : List ℕ) (given : List (List ℕ)) → HasCut stream (given ++ before) c → HasCut (stream ++ piece) (given ++ (before ++ messages)) new
     takes_whole stream given s =
         let is = fed stream piece (given ++ before) c s h ∙ ap (with_messages (given ++ before)) (brings (length stream)) in
         let old = s.place h in
@@ -141,8 +142,8 @@ module _ (c : CutterState) (before : List (List ℕ)) (piece : List ℕ) (h : c.
     }
 
   -- damage, which is reported as it is
-  module _ (new : CutterState) (damage : ℕ → Damage) (why : CutFault) (brings : (at : ℕ) → cut_from max_message at c.rest piece ≡ record { messages = []; rest = []; damage = Some (damage at) }) (told : (begins : ℕ) → c.start ≡ offset_in_64_bits begins → fault_of_damage (Some (damage (begins + length c.rest))) ≡ Some why) where
-    damaged_whole : (stream : List ℕ) (given : List (List ℕ)) → StandsFor stream (given ++ before) c → StandsFor (stream ++ piece) (given ++ before) (with_fault new why)
+  module _ (new : CutterState) (damage : ℕ → Damage) (why : CutFault) (brings : (at : ℕ) → cut_from max_message at c.rest piece ≡ record { messages = []; rest = []; damage = Some (damage at) }) (told : (begins : ℕ) → c.start ≡ capped_to_64_bits begins → fault_of_damage (Some (damage (begins + length c.rest))) ≡ Some why) where
+    damaged_whole : (stream : List ℕ) (given : List (List ℕ)) → HasCut stream (given ++ before) c → HasCut (stream ++ piece) (given ++ before) (with_fault new why)
     damaged_whole stream given s =
         let old = s.place h in
         let is = fed stream piece (given ++ before) c s h ∙ ap (with_messages (given ++ before)) (brings (length stream)) in
@@ -168,9 +169,9 @@ module _ (c : CutterState) (before : List (List ℕ)) (piece : List ℕ) (h : c.
   }
 
 -- a cutter that was given nothing
-pub stands_for_nothing : (rest : List ℕ) (looked : ℕ) → rest ≡ [] → StandsFor [] [] (record { start = 0; rest = rest; fault = None; looked = looked })
+pub has_cut_nothing : (rest : List ℕ) (looked : ℕ) → rest ≡ [] → HasCut [] [] (record { start = 0; rest = rest; fault = None; looked = looked })
 unfolding cut
-stands_for_nothing rest looked empty = record {
+has_cut_nothing rest looked empty = record {
   messages = refl;
   rest = sym empty;
   fault = refl;

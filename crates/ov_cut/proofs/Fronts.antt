@@ -2,11 +2,12 @@
 use Rattle.std.proofs.Common.{◌≡◌, ◌≢◌, ℕ, ◌+◌, ◌<◌, ◌≤◌, List, [], ◌∷◌, ◌++◌, length, take, drop, get_or, false, refl, sym, ap, subst, ◌∙◌, Some, None, arith}
 use Rattle.std.specs.Prelude.{slice_get}
 use Rattle.std.proofs.lemmas.List.{append-nil, length-append, take_all, take-append-drop, length-take-le}
+use Rattle.ov_specs.specs.values.Capped.{capped_to_64_bits}
 use Rattle.ov_specs.specs.wire.Balance.{is_space}
 use Rattle.ov_specs.specs.wire.Cut.{AllSpace, cut_from, with_messages, max_message, Stray, TooLong}
 use Rattle.ov_cut.specs.declared.fault.CutFault.{CutFault}
 use Rattle.ov_cut.specs.declared.fault.CutFault.TheVariants as fault
-use Rattle.ov_cut.specs.CutterState.{CutterState, offset_in_64_bits}
+use Rattle.ov_cut.specs.CutterState.{CutterState}
 use Rattle.ov_cut.specs.Message.{Brings}
 use Rattle.ov_cut.specs.Piece.{TakesPiece, advanced, with_fault}
 use Rattle.ov_cut.proofs.Scan.{goes_on, brings_then, first_brings, gap_brings, stray_brings, take_add}
@@ -66,9 +67,9 @@ module _ (c : CutterState) (looked : ℕ) (before : List (List ℕ)) (h : c.faul
         (takes_messages c before gap h [] [] (advanced looking (length gap)) (subst (λ r. Brings r gap [] []) (sym between) (gap_brings gap space)) between h
         (λ begins start. (begins + length gap, omega (arith, ap length between), omega (arith, start))))
 
-    pub took_stray : (piece : List ℕ) (n : ℕ) (new : CutterState) → n < length piece → AllSpace (take n piece) → is_space (get_or piece n 0) ≡ false → get_or piece n 0 ≢ 123 → TakesPiece c before piece (with_fault new (fault.Damaged (offset_in_64_bits (c.start + n)))) before
+    pub took_stray : (piece : List ℕ) (n : ℕ) (new : CutterState) → n < length piece → AllSpace (take n piece) → is_space (get_or piece n 0) ≡ false → get_or piece n 0 ≢ 123 → TakesPiece c before piece (with_fault new (fault.Damaged (capped_to_64_bits (c.start + n)))) before
     took_stray piece n new within space no_space no_brace =
-        takes_damage c before piece h new (λ at. Stray (at + n)) (fault.Damaged (offset_in_64_bits (c.start + n)))
+        takes_damage c before piece h new (λ at. Stray (at + n)) (fault.Damaged (capped_to_64_bits (c.start + n)))
         (subst (λ r. (at : ℕ) → cut_from max_message at r piece ≡ record { messages = []; rest = []; damage = Some (Stray (at + n)) }) (sym between) (stray_brings piece n within space no_space no_brace))
         (λ begins start. ap (λ k. Some (fault.Damaged k)) (omega (arith, start, ap length between)))
 

@@ -8,7 +8,7 @@ use Rattle.ov_cut.specs.declared.fault.CutFault.{CutFault}
 use Rattle.ov_cut.specs.declared.fault.CutFault.TheVariants as fault
 use Rattle.ov_cut.specs.declared.fault.StreamFault.{StreamFault}
 use Rattle.ov_cut.specs.declared.fault.StreamFault.TheVariants.{Damaged, Memory}
-use Rattle.ov_cut.specs.CutterState.{CutterState, StandsFor, fault_of_damage}
+use Rattle.ov_cut.specs.CutterState.{CutterState, HasCut, fault_of_damage}
 use Rattle.ov_cut.proofs.Feeding.{told_none}
 use Rattle.ov_cut.specs.Reading.{IsFed, AreRead, ReadsPiece, ReadsText, ReadsTexts, with_all, first_fault}
 
@@ -71,8 +71,8 @@ module _ (stream piece : List ℕ) (texts : List (List ℕ)) (before after : Cut
   unfolding asked
   split others e p q =
       ap (asked_of (cut (stream ++ piece)).messages) q ∙ (ap (λ (ts : List (List ℕ)). asked_of ts e) (sym p ∙ append_assoc f.given texts others)
-      ∙ (asked_more f.given (texts ++ others) (is_some (cut stream).damage) e (ap (λ (ts : List (List ℕ)). (asked_of ts (is_some (cut stream).damage)).damaged) (sym f.stands.messages) ∙ f.whole)
-      ∙ ap (λ (ts : List (List ℕ)). with_all (asked_of ts (is_some (cut stream).damage)).messages (asked_of (texts ++ others) e)) (sym f.stands.messages)))
+      ∙ (asked_more f.given (texts ++ others) (is_some (cut stream).damage) e (ap (λ (ts : List (List ℕ)). (asked_of ts (is_some (cut stream).damage)).damaged) (sym f.cuts.messages) ∙ f.whole)
+      ∙ ap (λ (ts : List (List ℕ)). with_all (asked_of ts (is_some (cut stream).damage)).messages (asked_of (texts ++ others) e)) (sym f.cuts.messages)))
 
   -- the texts were read up to a fault
   stopped : (why : StreamFault) → ReadsTexts texts messages (Some why) → AreRead (Some why) ((asked stream).messages ++ messages) (asked (stream ++ piece))
@@ -85,29 +85,29 @@ module _ (stream piece : List ℕ) (texts : List (List ℕ)) (before after : Cut
       (r.0, append_assoc (asked stream).messages messages r.0 ∙ (ap (λ (ms : List Message). (asked stream).messages ++ ms) r.1 ∙ sym (ap (λ (a : Asked). a.messages) (split begins.0 e begins.1 refl))))
 
   -- all texts were read, and the cutter gave all of them
-  ended : ReadsTexts texts messages None → StandsFor (stream ++ piece) (f.given ++ texts) after → (d : Bool) → is_some (cut (stream ++ piece)).damage ≡ d
+  ended : ReadsTexts texts messages None → HasCut (stream ++ piece) (f.given ++ texts) after → (d : Bool) → is_some (cut (stream ++ piece)).damage ≡ d
       → asked (stream ++ piece) ≡ record { messages = (asked stream).messages ++ messages; damaged = d }
   ended reads now d is =
       split [] d (append-nil (f.given ++ texts) ∙ sym now.messages) is
       ∙ ap (with_all (asked stream).messages) (reads [] d ∙ ap (λ (ms : List Message). record { messages = ms; damaged = d }) (append-nil messages))
 
-  pub reads_piece : (why : Option StreamFault) (told : Option CutFault) → ReadsTexts texts messages why → told ≡ after.fault → (told ≢ Some fault.Memory → StandsFor (stream ++ piece) (f.given ++ texts) after)
+  pub reads_piece : (why : Option StreamFault) (told : Option CutFault) → ReadsTexts texts messages why → told ≡ after.fault → (told ≢ Some fault.Memory → HasCut (stream ++ piece) (f.given ++ texts) after)
       → ReadsPiece stream piece messages (first_fault why told) after
-  reads_piece (Some why) told reads same stands = record { asks = stopped why reads; goes_on = λ none. cc }
-  reads_piece None None reads same stands =
-      let now = stands (λ h. cc) in
+  reads_piece (Some why) told reads same cuts = record { asks = stopped why reads; goes_on = λ none. cc }
+  reads_piece None None reads same cuts =
+      let now = cuts (λ h. cc) in
       let asks = ended reads now false (ap is_some (told_none (cut (stream ++ piece)).damage (now.fault ∙ sym same))) in
       record {
         asks = asks;
-        goes_on = λ _. record { given = f.given ++ texts; stands = now; whole = ap (λ (a : Asked). a.damaged) asks };
+        goes_on = λ _. record { given = f.given ++ texts; cuts = now; whole = ap (λ (a : Asked). a.damaged) asks };
       }
-  reads_piece None (Some (fault.Damaged x)) reads same stands =
-      let now = stands (λ h. cc) in
+  reads_piece None (Some (fault.Damaged x)) reads same cuts =
+      let now = cuts (λ h. cc) in
       record { asks = ended reads now true (told_some (cut (stream ++ piece)).damage (fault.Damaged x) (now.fault ∙ sym same)); goes_on = λ none. cc }
-  reads_piece None (Some fault.TooLong) reads same stands =
-      let now = stands (λ h. cc) in
+  reads_piece None (Some fault.TooLong) reads same cuts =
+      let now = cuts (λ h. cc) in
       record { asks = ended reads now true (told_some (cut (stream ++ piece)).damage fault.TooLong (now.fault ∙ sym same)); goes_on = λ none. cc }
-  reads_piece None (Some fault.Memory) reads same stands = record { asks = stopped Memory (reads_first texts [] messages reads); goes_on = λ none. cc }
+  reads_piece None (Some fault.Memory) reads same cuts = record { asks = stopped Memory (reads_first texts [] messages reads); goes_on = λ none. cc }
 
 -- ---- nothing
 
@@ -116,5 +116,5 @@ unfolding asked cut
 nothing_asked = refl
 
 -- a cutter that was given nothing
-pub fed_none : (cutter : CutterState) → StandsFor [] [] cutter → IsFed [] cutter
-fed_none cutter stands = record { given = []; stands = stands; whole = ap (λ (a : Asked). a.damaged) nothing_asked }
+pub fed_none : (cutter : CutterState) → HasCut [] [] cutter → IsFed [] cutter
+fed_none cutter cuts = record { given = []; cuts = cuts; whole = ap (λ (a : Asked). a.damaged) nothing_asked }

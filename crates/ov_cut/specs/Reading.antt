@@ -6,12 +6,12 @@ use Rattle.ov_cut.specs.declared.fault.CutFault.{CutFault}
 use Rattle.ov_cut.specs.declared.fault.CutFault.TheVariants as fault
 use Rattle.ov_cut.specs.declared.fault.StreamFault.{StreamFault}
 use Rattle.ov_cut.specs.declared.fault.StreamFault.TheVariants.{Damaged, Memory}
-use Rattle.ov_cut.specs.CutterState.{CutterState, StandsFor}
+use Rattle.ov_cut.specs.CutterState.{CutterState, HasCut}
 
 -- the cutter was given this stream, which is not damaged
 pub record IsFed (stream : List ℕ) (cutter : CutterState) : Type 0 where
   pub given : List (List ℕ)
-  pub stands : StandsFor stream given cutter
+  pub cuts : HasCut stream given cutter
   pub whole : (asked stream).damaged ≡ false
 
 -- The messages are those that a stream asks for, and it is not damaged, or damaged after them; if an allocation failed, some

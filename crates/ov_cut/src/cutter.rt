@@ -1,8 +1,9 @@
 ghost use Rattle.std.specs.Prelude.{◌≡◌, ◌≢◌, ◌↔◌, ◌+◌, ◌<◌, ◌≤◌, ℕ, List, [], ◌++◌, Some, None};
 ghost use Rattle.std.specs.Prelude.{IsSome, IsTrue, length, take, slice_get};
+ghost use Rattle.ov_specs.specs.values.Capped.{capped_to_64_bits};
 ghost use Rattle.ov_specs.specs.wire.Beginning.{BeginsAs};
 ghost use Rattle.ov_specs.specs.wire.Cut.{cut};
-ghost use Rattle.ov_cut.specs.CutterState.{StandsFor, offset_in_64_bits};
+ghost use Rattle.ov_cut.specs.CutterState.{HasCut};
 ghost use Rattle.ov_cut.specs.Message.{IsBegunAs};
 ghost use Rattle.ov_cut.specs.Piece.{with_fault, advanced, KeepsMore, GivesMessage, TakesPiece};
 ghost use Rattle.ov_cut.specs.Piece.{TakesFront, LooksAtFront};
@@ -51,7 +52,7 @@ impl Model for Cutter {
 impl Cutter {
     /// A cutter of a stream of which nothing has arrived. Allocates nothing before the first piece.
     pub fn new(alloc: Global) -> Cutter
-        ensures { StandsFor [] [] result }
+        ensures { HasCut [] [] result }
     {
         Cutter {
             start: 0,
@@ -74,11 +75,11 @@ impl Cutter {
     /// 1,048,576 bytes, and anything for which an allocation fails; afterwards it refuses all that follows.
     pub fn feed(&mut self, alloc: Global, piece: &[u8]) -> Fed
         // All messages so far, the rest and the fault are those of the stream so far.
-        ensures whole { (stream : List ℕ) (given : List (List ℕ)) → StandsFor stream given self.old
+        ensures whole { (stream : List ℕ) (given : List (List ℕ)) → HasCut stream given self.old
             → result.fault ≢ Some CutFault.Memory
-            → StandsFor (stream ++ piece.now) (given ++ result.messages.items) self.new }
+            → HasCut (stream ++ piece.now) (given ++ result.messages.items) self.new }
         // If an allocation fails, some are missing at the end.
-        ensures memory { (stream : List ℕ) (given : List (List ℕ)) → StandsFor stream given self.old
+        ensures memory { (stream : List ℕ) (given : List (List ℕ)) → HasCut stream given self.old
             → BeginsAs (given ++ result.messages.items) (cut (stream ++ piece.now)).messages }
 
         ensures fault { result.fault ≡ self.new.fault }
@@ -294,7 +295,7 @@ impl Cutter {
 
 /// The offset this many bytes after another.
 fn moved(offset: u64, len: usize) -> u64
-    ensures { result ≡ offset_in_64_bits (offset + len) }
+    ensures { result ≡ capped_to_64_bits (offset + len) }
 {
     offset.saturating_add(len as u64)
 }

@@ -1,23 +1,41 @@
--- A table's columns, each with the value of its tree, are the same if they are added one by one; and the row with them.
+-- A table's columns, each with its stored value, are the same if they are added one by one; and the row with them.
 use Rattle.std.proofs.Common.{◌≡◌, ℕ, List, [], ◌∷◌, Bool, true, false, cond, T, Option, Some, None, option_map, option_and_then, refl, sym, ap, subst, ◌∙◌}
-use Rattle.std.specs.Prelude.{not, if◌then◌else◌}
+use Rattle.std.specs.Prelude.{not, if◌then◌else◌, Result, Ok, Err}
 use Rattle.std.specs.List.{filter}
 use Rattle.std.specs.FinMap.{empty, find, is_sorted, get, insert, entries, entries_sorted, from_entries, get-empty, get-insert, get-from_entries, same_map}
 use Rattle.std.specs.FinMap.Entries.{below_all}
-use Rattle.serde_json.specs.Data.{Data}
-use Rattle.ov_specs.specs.rows.Database.{Columns}
-use Rattle.ov_specs.specs.rows.Held.{Body, all_results, is_stored_as, row_if_stored, row_of_body, value_held}
+use Rattle.ov_specs.specs.rows.Database.{Columns, Row}
+use Rattle.ov_specs.specs.rows.Held as stored
+use Rattle.ov_specs.specs.rows.Held.{Body, is_stored_as, row_held, row_if_stored, row_of_body, value_held}
+use Rattle.ov_specs.specs.rows.Lines.{LineKey}
 use Rattle.ov_specs.specs.rows.RowNames.{is_own_column, row_columns}
-use Rattle.ov_specs.specs.schema.SchemaTypes.{Column, Table, name_cmp}
-use Rattle.ov_specs.specs.values.Reading.{in_front}
+use Rattle.ov_specs.specs.schema.SchemaTypes.{Column, Table, Schema, name_cmp}
+use Rattle.ov_specs.specs.values.Results.{all_results, in_front}
 use Rattle.ov_specs.specs.values.Uuid.{Uuid}
 use Rattle.ov_specs.specs.values.Value.{Datum}
 use Rattle.ov_specs.proofs.laws.Names.{name_cmp_total, name_exact, same_name, find-first_not_later, sorted_rest}
 use Rattle.ov_specs.proofs.laws.Truths.{both_hold, left_holds, right_holds}
 use Rattle.ov_db.specs.declared.fault.OpenFault.{OpenFault}
 use Rattle.ov_db.specs.declared.fault.OpenFault.TheVariants.{SchemaDiffers, BadBody, Broken, TypeChanged, NotConvertible, Keeping}
-use Rattle.ov_db.specs.Loading.{IsNotLoaded}
-use Rattle.ov_db.specs.Stored.{columns_by, columns_stored, value_by, value_from}
+use Rattle.ov_db.specs.Loading.{IsNotLoaded, IsLoaded}
+use Rattle.ov_db.specs.Stored.{RowBody, columns_stored, named, row_stored}
+
+-- ---- one value
+
+-- a value that was read, under the name of its column
+pub named_loaded : (name : List ℕ) (o : Option Datum) (result : Result Datum OpenFault) → IsLoaded (λ datum. datum) o result → IsLoaded (named name) (option_map (named name) o) result
+named_loaded name o (Ok datum) is = ap (option_map (named name)) is
+named_loaded name o (Err fault) is = not_loaded fault is
+  where
+    not_loaded : (why : OpenFault) → IsNotLoaded o why → IsNotLoaded (option_map (named name) o) why
+    not_loaded BadBody is = ap (option_map (named name)) is
+    not_loaded (Keeping cause) is = is
+    not_loaded SchemaDiffers is = is
+    not_loaded Broken is = is
+    not_loaded TypeChanged is = is
+    not_loaded NotConvertible is = is
+
+-- ---- all values
 
 abbrev Values : Type 0
 Values = List (List ℕ × Datum)
@@ -49,40 +67,40 @@ put_all-from : (vs : Values) → T (is_sorted name_cmp vs) → put_all vs empty 
 put_all-from vs h = same_map name_cmp_total name_exact _ _ (λ q.
     get-put_all vs empty q h ∙ ap (or_value (find name_cmp q vs)) (get-empty name_cmp q) ∙ or_nothing (find name_cmp q vs) ∙ sym (get-from_entries name_cmp_total vs q))
 
--- these columns added to those before, each with the value of its tree, but for the columns that every row has by itself
-abbrev pub added_by : (List ℕ → Option Data) → List (List ℕ × Column) → Columns → Option Columns
-added_by tree_at [] columns = Some columns
-added_by tree_at (c ∷ cs) columns =
-    if is_own_column c.0 then added_by tree_at cs columns
-    else option_and_then (λ datum. added_by tree_at cs (insert columns c.0 datum)) (value_from (tree_at c.0) c.1)
+-- these columns added to those before, each with its stored value, except for the columns that every row has by itself
+abbrev pub added_by : Body → List (List ℕ × Column) → Columns → Option Columns
+added_by body [] columns = Some columns
+added_by body (c ∷ cs) columns =
+    if is_own_column c.0 then added_by body cs columns
+    else option_and_then (λ v. added_by body cs (insert columns v.0 v.1)) (value_held body c)
 
-module _ (tree_at : List ℕ → Option Data) where
+module _ (body : Body) where
   abbrev kept : List (List ℕ × Column) → List (List ℕ × Column)
   kept cs = filter (λ c. not (is_own_column c.0)) cs
 
   abbrev held_all : List (List ℕ × Column) → Option Values
-  held_all cs = all_results (value_by tree_at) (kept cs)
+  held_all cs = all_results (value_held body) (kept cs)
 
   -- ---- the values that were added
 
-  one_more : (c : List ℕ × Column) (cs : List (List ℕ × Column)) (before : Columns) → ((more : Columns) → added_by tree_at cs more ≡ option_map (λ vs. put_all vs more) (held_all cs))
-      → added_by tree_at (c ∷ cs) before ≡ option_map (λ vs. put_all vs before) (held_all (c ∷ cs))
+  one_more : (c : List ℕ × Column) (cs : List (List ℕ × Column)) (before : Columns) → ((more : Columns) → added_by body cs more ≡ option_map (λ vs. put_all vs more) (held_all cs))
+      → added_by body (c ∷ cs) before ≡ option_map (λ vs. put_all vs before) (held_all (c ∷ cs))
   one_more c cs before next = by (is_own_column c.0)
     where
-      by_rest : (datum : Datum) (r : Option Values) → option_map (λ vs. put_all vs (insert before c.0 datum)) r ≡ option_map (λ vs. put_all vs before) (in_front (Some (c.0, datum)) r)
-      by_rest datum None = refl
-      by_rest datum (Some vs) = refl
+      by_rest : (v : List ℕ × Datum) (r : Option Values) → option_map (λ vs. put_all vs (insert before v.0 v.1)) r ≡ option_map (λ vs. put_all vs before) (in_front (Some v) r)
+      by_rest v None = refl
+      by_rest v (Some vs) = refl
 
-      by_value : (o : Option Datum) → option_and_then (λ datum. added_by tree_at cs (insert before c.0 datum)) o ≡ option_map (λ vs. put_all vs before) (in_front (option_map (λ datum. (c.0, datum)) o) (held_all cs))
+      by_value : (o : Option (List ℕ × Datum)) → option_and_then (λ v. added_by body cs (insert before v.0 v.1)) o ≡ option_map (λ vs. put_all vs before) (in_front o (held_all cs))
       by_value None = refl
-      by_value (Some datum) = next (insert before c.0 datum) ∙ by_rest datum (held_all cs)
+      by_value (Some v) = next (insert before v.0 v.1) ∙ by_rest v (held_all cs)
 
-      by : (b : Bool) → cond b (added_by tree_at cs before) (option_and_then (λ datum. added_by tree_at cs (insert before c.0 datum)) (value_from (tree_at c.0) c.1))
-          ≡ option_map (λ vs. put_all vs before) (all_results (value_by tree_at) (cond (not b) (c ∷ kept cs) (kept cs)))
+      by : (b : Bool) → cond b (added_by body cs before) (option_and_then (λ v. added_by body cs (insert before v.0 v.1)) (value_held body c))
+          ≡ option_map (λ vs. put_all vs before) (all_results (value_held body) (cond (not b) (c ∷ kept cs) (kept cs)))
       by true = next before
-      by false = by_value (value_from (tree_at c.0) c.1)
+      by false = by_value (value_held body c)
 
-  added_all : (cs : List (List ℕ × Column)) (before : Columns) → added_by tree_at cs before ≡ option_map (λ vs. put_all vs before) (held_all cs)
+  added_all : (cs : List (List ℕ × Column)) (before : Columns) → added_by body cs before ≡ option_map (λ vs. put_all vs before) (held_all cs)
   added_all [] before = refl
   added_all (c ∷ cs) before = one_more c cs before (λ more. added_all cs more)
 
@@ -101,9 +119,9 @@ module _ (tree_at : List ℕ → Option Data) where
       by_value None k = cc
       by_value (Some datum) k = by_rest datum (held_all cs) refl k
 
-      by : (b : Bool) → all_results (value_by tree_at) (cond (not b) (c ∷ kept cs) (kept cs)) ≡ Some vs → P vs
+      by : (b : Bool) → all_results (value_held body) (cond (not b) (c ∷ kept cs) (kept cs)) ≡ Some vs → P vs
       by true k = others vs k
-      by false k = by_value (value_from (tree_at c.0) c.1) k
+      by false k = by_value _ k
 
   below : (name : List ℕ) (cs : List (List ℕ × Column)) (vs : Values) → held_all cs ≡ Some vs → T (below_all name_cmp name cs) → T (below_all name_cmp name vs)
   below name [] [] h k = tt
@@ -119,7 +137,7 @@ module _ (tree_at : List ℕ → Option Data) where
 
   -- ---- all of them
 
-  pub columns_added : (table : Table) → columns_by tree_at table ≡ added_by tree_at (entries table.columns) empty
+  pub columns_added : (table : Table) → columns_stored body table ≡ added_by body (entries table.columns) empty
   columns_added table = sym (added_all (entries table.columns) empty ∙ by (held_all (entries table.columns)) refl)
     where
       by : (o : Option Values) → held_all (entries table.columns) ≡ o → option_map (λ vs. put_all vs empty) o ≡ option_map from_entries o
@@ -149,3 +167,18 @@ pub row_if : (table : Table) (version : Uuid) (body : Body) (columns : Columns) 
     → row_of_body table version body ≡ cond b (Some (record { version = version; columns = columns })) None
 row_if table version body columns b stored is =
     row_of_columns table version body ∙ ap (option_and_then (row_if_stored version body)) stored ∙ ap (λ t. cond t (Some (record { version = version; columns = columns })) None) is
+
+-- ---- the row under a key
+
+module _ (schema : Schema) where
+  without_key : (key : LineKey) (o : Option Row) → option_map (λ (r : LineKey × Row). r.1) (option_map (λ row. (key, row)) o) ≡ o
+  without_key key None = refl
+  without_key key (Some row) = refl
+
+  -- what is stored under a key is a row of the key's table
+  pub row_stored-is : (key : LineKey) (body : RowBody) → row_stored schema key body ≡ option_and_then (λ table. row_of_body table body.0 body.1) (get schema.tables key.0)
+  row_stored-is key body = without_key key (option_and_then (λ table. row_of_body table body.0 body.1) (get schema.tables key.0))
+
+  -- a line is the row that is stored under its key
+  pub row_held-is : (line : stored.Line) → row_held schema line ≡ option_map (λ row. (line.key, row)) (row_stored schema line.key (line.version, line.body))
+  row_held-is line = ap (option_map (λ row. (line.key, row))) (sym (row_stored-is line.key (line.version, line.body)))

@@ -6,11 +6,11 @@ use Rattle.std.proofs.lemmas.Option.{same_Some}
 use Rattle.ov_specs.specs.rows.Cells.{CellLine, CellLines, StoredLines, Whole, InCells, cell_line_of, cell_lines_of}
 use Rattle.ov_specs.specs.rows.Database.{Columns, Database, Row}
 use Rattle.ov_specs.specs.rows.Held as stored
-use Rattle.ov_specs.specs.rows.Held.{OneText, OfCells, all_results, held, is_stored_as, lines_held, row_held, row_of_body, value_held}
+use Rattle.ov_specs.specs.rows.Held.{OneText, OfCells, held, is_stored_as, lines_held, row_held, row_of_body, value_held}
 use Rattle.ov_specs.specs.rows.Lines.{LineBody, LineKey, line_cmp}
 use Rattle.ov_specs.specs.rows.RowNames.{row_columns}
 use Rattle.ov_specs.specs.schema.SchemaTypes.{Schema, Table}
-use Rattle.ov_specs.specs.values.Reading.{in_front}
+use Rattle.ov_specs.specs.values.Results.{all_results, in_front}
 use Rattle.ov_specs.specs.values.Value.{Datum}
 use Rattle.ov_specs.proofs.laws.LineKeys.{key_exact, key_total, same_tied, tied_same}
 use Rattle.ov_specs.proofs.laws.Truths.{both_hold, left_holds, right_holds, not_tied}
@@ -22,6 +22,7 @@ use Rattle.ov_db.specs.declared.fault.OpenFault.TheVariants.{SchemaDiffers, BadB
 use Rattle.ov_db.specs.Loading.{IsNotLoaded, cells_entry, whole_entry, with_line, with_lines}
 use Rattle.ov_db.specs.Stored.{RowBody, row_stored}
 use Rattle.ov_db.proofs.Added.{same}
+use Rattle.ov_db.proofs.BodyRows.{row_held-is, row_stored-is}
 use Rattle.ov_db.proofs.CellMaps.{find-map, found-map, get-cell_lines_of, stored_cells}
 
 -- ---- a list in ascending order
@@ -195,7 +196,8 @@ module _ (schema : Schema) where
       → option_map Some (find line_cmp key rs) ≡ option_map (row_stored schema key) (find line_cmp key (map entry_of ls))
   rows_found [] [] h key = refl
   rows_found [] (r ∷ rs) h key = cc
-  rows_found (l ∷ ls) rs h key = by (row_stored schema l.key (l.version, l.body)) refl (λ ws is. rows_found ls ws is key) h
+  rows_found (l ∷ ls) rs h key =
+      by (row_stored schema l.key (l.version, l.body)) refl (λ ws is. rows_found ls ws is key) (ap (λ o. in_front o (all_results (row_held schema) ls)) (sym (row_held-is schema l)) ∙ h)
     where
       one : (row : Row) (ws : List (LineKey × Row)) (b : Bool) → same key l.key ≡ b → row_stored schema l.key (l.version, l.body) ≡ Some row
           → option_map Some (find line_cmp key ws) ≡ option_map (row_stored schema key) (find line_cmp key (map entry_of ls))
@@ -221,7 +223,8 @@ module _ (schema : Schema) where
 
   bad_found : (ls : List stored.Line) → T (is_sorted line_cmp (map entry_of ls)) → all_results (row_held schema) ls ≡ None → HasBad (λ key. find line_cmp key (map entry_of ls))
   bad_found [] sorted h = cc
-  bad_found (l ∷ ls) sorted h = by (row_stored schema l.key (l.version, l.body)) refl (λ k. bad_found ls (right_holds _ _ sorted) k) h
+  bad_found (l ∷ ls) sorted h =
+      by (row_stored schema l.key (l.version, l.body)) refl (λ k. bad_found ls (right_holds _ _ sorted) k) (ap (λ o. in_front o (all_results (row_held schema) ls)) (sym (row_held-is schema l)) ∙ h)
     where
       no_rest : (row : Row) (o : Option (List (LineKey × Row))) → in_front (Some (l.key, row)) o ≡ None → o ≡ None
       no_rest row None k = refl
@@ -313,7 +316,7 @@ cells_loaded schema lines = with_lines_held schema (InCells (from_entries (map c
 -- ---- a row is stored as the cells that it was read from
 
 pub cells_of_stored : (schema : Schema) (key : LineKey) (line : CellLine) (row : Row) → row_stored schema key (line.0, OfCells line.1) ≡ Some row → cell_line_of row ≡ line
-cells_of_stored schema key line row h = by_table (get schema.tables key.0) h
+cells_of_stored schema key line row h = by_table (get schema.tables key.0) (sym (row_stored-is schema key (line.0, OfCells line.1)) ∙ h)
   where
     by_test : (columns : Columns) (b : Bool) → is_stored_as columns (OfCells line.1) ≡ b → cond b (Some (record { version = line.0; columns = columns })) None ≡ Some row → cell_line_of row ≡ line
     by_test columns true is k = ap cell_line_of (sym (same_Some (record { version = line.0; columns = columns }) row k)) ∙ ap (λ cells. (line.0, cells)) (stored_cells columns line.1 is)

@@ -7,7 +7,7 @@ use Rattle.ov_specs.specs.rows.RowNames.{is_own_column}
 use Rattle.ov_specs.specs.values.Uuid.{Uuid, no_names}
 use Rattle.ov_specs.specs.rows.Cells.{cell_body, cells_of}
 use Rattle.ov_specs.specs.rows.Database.{Columns, Row}
-use Rattle.ov_specs.specs.rows.Held.{Body, OfCells, if_fits, is_stored_as, row_if_stored, row_of_body, tree_stored}
+use Rattle.ov_specs.specs.rows.Held.{Body, OfCells, if_fits, is_stored_as, row_if_stored, row_of_body, tree_stored, value_held}
 use Rattle.ov_specs.specs.rows.Lines.{LineKey}
 use Rattle.ov_specs.specs.rows.Suits.{is_value_for, column_of_row, suits_column, SuitsTable, SuitsRow}
 use Rattle.ov_specs.specs.schema.Fitting.{fits}
@@ -19,8 +19,8 @@ use Rattle.ov_specs.proofs.laws.Names.{name_cmp_total, name_exact, same_name, sa
 use Rattle.ov_specs.proofs.laws.ReadingBack.{reads-tree}
 use Rattle.ov_rows.specs.Body.{AreOfKinds}
 use Rattle.ov_specs.specs.wire.Message.{tree_of}
-use Rattle.ov_db.specs.Stored.{AreCellsRead, columns_stored, row_cells, row_stored, value_stored}
-use Rattle.ov_db.proofs.BodyRows.{added_by, columns_added, row_of_columns}
+use Rattle.ov_db.specs.Stored.{AreCellsRead, columns_stored, row_cells, row_stored}
+use Rattle.ov_db.proofs.BodyRows.{added_by, columns_added, row_of_columns, row_stored-is}
 use Rattle.ov_db.proofs.CellMaps.{are_stored, get-cells_of}
 
 -- ---- one value
@@ -37,12 +37,14 @@ fits_it column datum h =
 
 module _ (table : Table) (columns : Columns) (suits : SuitsTable table columns) (body : Body) (holds : (name : List ℕ) (datum : Datum) → get columns name ≡ Some datum → tree_stored body name ≡ Some (tree datum)) where
   -- the body has the row's value for the column
-  value_is_stored : (name : List ℕ) (column : Column) → is_own_column name ≡ false → get table.columns name ≡ Some column → (datum : Datum) × (get columns name ≡ Some datum) × (value_stored body (name, column) ≡ Some datum)
+  value_is_stored : (name : List ℕ) (column : Column) → is_own_column name ≡ false → get table.columns name ≡ Some column → (datum : Datum) × (get columns name ≡ Some datum) × (value_held body (name, column) ≡ Some (name, datum))
   value_is_stored name column own is =
       let at : column_of_row table name ≡ Some column = ap (λ b. cond b None (get table.columns name)) own ∙ is in
       let value = given column (get columns name) (sym (ap (λ c. suits_column c (get columns name)) at) ∙ suits name) in
       let member : tree_stored body name ≡ Some (tree value.0) = holds name value.0 value.1 in
-      (value.0, value.1, ap (option_and_then (λ d. if_fits column (reads no_names (kinds_of column.type_of) d))) member ∙ fits_it column value.0 value.2)
+      let fits : option_and_then (λ d. if_fits column (reads no_names (kinds_of column.type_of) d)) (tree_stored body name) ≡ Some value.0 =
+      ap (option_and_then (λ d. if_fits column (reads no_names (kinds_of column.type_of) d))) member ∙ fits_it column value.0 value.2 in
+      (value.0, value.1, ap (option_map (λ datum. (name, datum))) fits)
 
   -- ---- all columns
 
@@ -88,18 +90,18 @@ module _ (table : Table) (columns : Columns) (suits : SuitsTable table columns) 
       by false is = refl
 
   abbrev Stored : List (List ℕ × Column) → Columns → Type 0
-  Stored cs before = (after : Columns) × (added_by (tree_stored body) cs before ≡ Some after) × Adds cs before after
+  Stored cs before = (after : Columns) × (added_by body cs before ≡ Some after) × Adds cs before after
 
   one_stored : (c : List ℕ × Column) (cs : List (List ℕ × Column)) (before : Columns) → get table.columns c.0 ≡ Some c.1 → ((more : Columns) → Stored cs more) → Stored (c ∷ cs) before
   one_stored c cs before stands next = by (is_own_column c.0) refl
     where
       by : (b : Bool) → is_own_column c.0 ≡ b
-          → (after : Columns) × (cond b (added_by (tree_stored body) cs before) (option_and_then (λ datum. added_by (tree_stored body) cs (insert before c.0 datum)) (value_stored body c)) ≡ Some after) × Adds (c ∷ cs) before after
+          → (after : Columns) × (cond b (added_by body cs before) (option_and_then (λ v. added_by body cs (insert before v.0 v.1)) (value_held body c)) ≡ Some after) × Adds (c ∷ cs) before after
       by true own = let rest = next before in (rest.0, rest.1, passed_over c cs before rest.0 own rest.2)
       by false own =
           let value = value_is_stored c.0 c.1 own stands in
           let rest = next (insert before c.0 value.0) in
-          (rest.0, ap (option_and_then (λ datum. added_by (tree_stored body) cs (insert before c.0 datum))) value.2 ∙ rest.1, added c cs before rest.0 value.0 own value.1 rest.2)
+          (rest.0, ap (option_and_then (λ v. added_by body cs (insert before v.0 v.1))) value.2 ∙ rest.1, added c cs before rest.0 value.0 own value.1 rest.2)
 
   stored : (cs : List (List ℕ × Column)) (before : Columns) → EachEntry (λ name column. get table.columns name ≡ Some column) cs → Stored cs before
   stored [] before stand = (before, refl, λ name. others name (is_own_column name))
@@ -118,7 +120,7 @@ module _ (table : Table) (columns : Columns) (suits : SuitsTable table columns) 
   pub columns_are_stored : columns_stored body table ≡ Some columns
   columns_are_stored =
       let all = stored (entries table.columns) empty (each_entry table.columns) in
-      columns_added (tree_stored body) table ∙ all.1 ∙ ap Some (same_map name_cmp_total name_exact all.0 columns (λ name.
+      columns_added body table ∙ all.1 ∙ ap Some (same_map name_cmp_total name_exact all.0 columns (λ name.
       all.2 name ∙ ap (λ o. cond (not (is_own_column name) && is_some o) (get columns name) (get (empty {K = List ℕ} {X = Datum} {R = name_cmp}) name)) (sym (get-entries table.columns name))
       ∙ ap (cond (not (is_own_column name) && is_some (get table.columns name)) (get columns name)) (get-empty name_cmp name)
       ∙ by name (is_own_column name) (get table.columns name) refl refl))
@@ -162,5 +164,5 @@ cells_are_stored table version columns suits read = row_is_stored table version 
 -- if its cells read back as written, they read back as the row
 pub reads_back : (schema : Schema) (key : LineKey) (row : Row) → SuitsRow schema key row → AreCellsRead row.columns → row_stored schema key (row_cells row) ≡ Some row
 reads_back schema key row suits read =
-    ap (option_and_then (λ (table : Table). row_of_body table row.version (OfCells (cells_of row.columns)))) suits.named
+    row_stored-is schema key (row_cells row) ∙ ap (option_and_then (λ (table : Table). row_of_body table row.version (OfCells (cells_of row.columns)))) suits.named
     ∙ cells_are_stored suits.table row.version row.columns suits.columns read

@@ -72,7 +72,7 @@ FindsOne leaves = (a b : Stored) → leaves a → leaves b → a ≡ b
 abbrev pub IsOutdated : Schema → Stored → Type 0
 IsOutdated schema held = (format_of held.lines ≡ 1) ⊎ (held.schema ≢ compact_text schema.tree)
 
--- what is found is the database, written anew over what is outdated and is opened as the database
+-- what is found is the database as the open wrote it, over something outdated that opens as the database
 pub record IsRenewed (old : Stored → Type 0) (opens : Stored → Result Database OpenRefusal) (schema : Schema) (database : Database) (found : Stored) : Type 0 where
   pub before : Stored
   pub was : old before

@@ -33,12 +33,12 @@ pub record LeadsBack (schema : Schema) (database : Database) (room : Room) (resi
 -- the rows are the database with places for the changes, and the links and indexes are those after the changes
 pub record IsReady (schema : Schema) (delta : Delta) (database : Database) (resident : Resident) : Type 0 where
   pub same : IsSameBeside delta database resident.rows
-  pub placed : HasPlacesFor delta resident.rows
+  pub places : HasPlacesFor delta resident.rows
   pub beside : IsBeside schema (applied delta database) resident
 
 -- the same, once the references and entries that go are taken out
 pub record LeadsOn (schema : Schema) (delta : Delta) (database : Database) (room : Room) (resident : Resident) : Type 0 where
   pub same : IsSameBeside delta database resident.rows
-  pub placed : HasPlacesFor delta resident.rows
+  pub places : HasPlacesFor delta resident.rows
   pub links : AreLinksOf schema (applied delta database) (without_references room.links.gone.items resident.links)
   pub indexes : AreIndexesOf schema (applied delta database) (without_entries room.indexes.gone.items resident.indexes)

@@ -1,17 +1,15 @@
 -- The row that is stored under a key, and which rows read back from their cells.
-use Rattle.std.specs.Prelude.{◌≡◌, ℕ, List, [], ◌∷◌, true, Option, Some, None, option_map, option_and_then}
+use Rattle.std.specs.Prelude.{◌≡◌, ℕ, List, [], ◌∷◌, true, Option, Some, None, option_map}
 use Rattle.std.specs.FinMap.{get, from_entries}
-use Rattle.serde_json.specs.Data.{Data}
-use Rattle.serde_json.specs.Find as find
 use Rattle.ov_specs.specs.rows.Cells.{cell_body, cells_of}
 use Rattle.ov_specs.specs.rows.Database.{Columns, Row, Database}
-use Rattle.ov_specs.specs.rows.Held.{Body, OfCells, all_results, if_fits, row_of_body, tree_stored}
+use Rattle.ov_specs.specs.rows.Held.{Body, OfCells, row_held, value_held}
 use Rattle.ov_specs.specs.rows.Lines.{LineKey}
 use Rattle.ov_specs.specs.rows.RowNames.{row_columns}
 use Rattle.ov_specs.specs.rows.Suits.{Suits}
-use Rattle.ov_specs.specs.schema.SchemaTypes.{Column, Table, Schema, kinds_of}
-use Rattle.ov_specs.specs.values.Reading.{reads}
-use Rattle.ov_specs.specs.values.Uuid.{Uuid, no_names}
+use Rattle.ov_specs.specs.schema.SchemaTypes.{Table, Schema}
+use Rattle.ov_specs.specs.values.Results.{all_results}
+use Rattle.ov_specs.specs.values.Uuid.{Uuid}
 use Rattle.ov_specs.specs.values.Value.{Datum, Kinds, is_of}
 use Rattle.ov_specs.specs.values.Writing.{tree}
 use Rattle.ov_specs.specs.wire.Message.{tree_of}
@@ -20,9 +18,9 @@ use Rattle.ov_specs.specs.wire.Message.{tree_of}
 abbrev pub RowBody : Type 0
 RowBody = Uuid × Body
 
--- the row that is stored under the key, as in `row_held`
+-- the row that is stored under the key, if it is one of the schema
 abbrev pub row_stored : Schema → LineKey → RowBody → Option Row
-row_stored schema key stored = option_and_then (λ table. row_of_body table stored.0 stored.1) (get schema.tables key.0)
+row_stored schema key stored = option_map (λ r. r.1) (row_held schema (record { key = key; version = stored.0; body = stored.1 }))
 
 -- ---- rows that read back
 
@@ -59,26 +57,10 @@ abbrev pub ArePutRead : List (LineKey × Option Row) → Type 0
 ArePutRead [] = Unit {0}
 ArePutRead (change ∷ changes) = IsPutRead change.1 × ArePutRead changes
 
--- the value that a stored tree is for a column
-abbrev pub value_from : Option Data → Column → Option Datum
-value_from found column = option_and_then (λ d. if_fits column (reads no_names (kinds_of column.type_of) d)) found
+-- the value with the name of its column
+abbrev pub named : List ℕ → Datum → List ℕ × Datum
+named name datum = (name, datum)
 
--- the value that is stored for a column, as in `value_held`
-abbrev pub value_stored : Body → List ℕ × Column → Option Datum
-value_stored body c = value_from (tree_stored body c.0) c.1
-
--- the value that the tree of a column's name is for the column, with the name
-abbrev pub value_by : (List ℕ → Option Data) → List ℕ × Column → Option (List ℕ × Datum)
-value_by tree_at c = option_map (λ datum. (c.0, datum)) (value_from (tree_at c.0) c.1)
-
--- the columns that each row of the table has, with the values of their trees, if all have one
-abbrev pub columns_by : (List ℕ → Option Data) → Table → Option Columns
-columns_by tree_at table = option_map from_entries (all_results (value_by tree_at) (row_columns table))
-
--- the same, with their stored values
+-- the columns of a row of the table with the values that are stored for them, if each has one; more may be stored
 abbrev pub columns_stored : Body → Table → Option Columns
-columns_stored body table = columns_by (tree_stored body) table
-
--- the members of a tree, if there is one
-abbrev pub trees_in : Option Data → List ℕ → Option Data
-trees_in body name = option_and_then (find.get name) body
+columns_stored body table = option_map from_entries (all_results (value_held body) (row_columns table))

@@ -9,7 +9,8 @@ ghost use Rattle.ov_rows.specs.Nested.{rows_in};
 ghost use Rattle.ov_keeper.specs.Keeping.{HasFailed};
 ghost use Rattle.ov_keeper.specs.declared.fault.KeepFault.TheVariants.{Device};
 ghost use Rattle.ov_db.specs.Changing.{SuitsChanges, applied};
-ghost use Rattle.ov_refs.specs.Counting.{in_64_bits, strong_count};
+ghost use Rattle.ov_refs.specs.Counting.{strong_count};
+ghost use Rattle.ov_specs.specs.values.Capped.{capped_to_64_bits};
 ghost use Rattle.ov_refs.specs.Linking.{AreLinksOf};
 ghost use Rattle.ov_index.specs.Indexing.{AreIndexesOf};
 ghost use Rattle.ov_specs.specs.integrity.Committed.{is_whole};
@@ -224,7 +225,8 @@ impl<K: Keeper + Drop> Db<K> {
     /// The number of strong references from different rows to the row of this key, which stays at 2^64-1 (RFC 7047, 3.2,
     /// `<base-type>`, refType). Reads only the rows that refer to it, and allocates nothing.
     pub fn strong_count(&self, to: &RowKey) -> u64
-        ensures { result ≡ in_64_bits (strong_count self.now.schema self.now.committed to.now) }
+        ensures { result ≡ capped_to_64_bits
+            (strong_count self.now.schema self.now.committed to.now) }
     {
         let links = &self.resident.links;
         links.strong_count(&self.schema, &self.resident.rows, to)

@@ -1,13 +1,16 @@
-ghost use Rattle.std.specs.Prelude.{◌≡◌, IfOk, IfErr, Some, option_map};
+ghost use Rattle.std.specs.Prelude.{◌≡◌, IfOk, IfErr, Some, option_and_then, option_map};
+ghost use Rattle.serde_json.specs.Find as find;
 ghost use Rattle.serde_json.specs.View.{view};
-ghost use Rattle.ov_specs.specs.rows.Held.{OneText, row_of_body};
+ghost use Rattle.ov_specs.specs.rows.Held.{OneText, if_fits, row_of_body};
 ghost use Rattle.ov_specs.specs.rows.Suits.{is_value_for};
+ghost use Rattle.ov_specs.specs.schema.SchemaTypes.{kinds_of};
+ghost use Rattle.ov_specs.specs.values.Reading.{reads};
+ghost use Rattle.ov_specs.specs.values.Uuid.{no_names};
 ghost use Rattle.ov_specs.specs.wire.Message.{tree_of};
 ghost use Rattle.ov_keeper.specs.declared.fault.KeepFault.TheVariants.{Memory};
 ghost use Rattle.ov_db.specs.Loading.{IsLoaded, whole_entry};
 ghost use Rattle.ov_db.specs.Guessed.{are_values_for};
-ghost use Rattle.ov_db.specs.Stored.{columns_by, columns_stored, row_stored};
-ghost use Rattle.ov_db.specs.Stored.{trees_in, value_from};
+ghost use Rattle.ov_db.specs.Stored.{columns_stored, row_stored};
 ghost use Rattle.ov_db.specs.declared.fault.OpenFault.TheVariants.{Keeping};
 
 use crate::fault::OpenFault;
@@ -129,20 +132,19 @@ fn row_in_full(alloc: Global, table: &Table, line: &Line) -> Result<Row, OpenFau
 fn columns_of(alloc: Global, table: &Table, text: &[u8]) -> Result<Columns, OpenFault>
     ensures { IsLoaded (λ columns. columns) (columns_stored (OneText text.now) table.now) result }
 {
-    let body = tree_of(alloc, text)?;
-    let values = values_of(alloc, table, &body)?;
+    let values = values_of(alloc, table, text)?;
     Ok(Columns::of(alloc, table.row_shape(), values)?)
 }
 
-/// The values that the body has for all columns of the table except `_uuid` and `_version`.
-fn values_of(alloc: Global, table: &Table, body: &Option<Value>) -> Result<NamedValues, OpenFault>
-    ensures { IsLoaded (λ values. values) (columns_by (trees_in (option_map view body.now))
-        table.now) result }
+/// The values that the text has for all columns of the table except `_uuid` and `_version`.
+fn values_of(alloc: Global, table: &Table, text: &[u8]) -> Result<NamedValues, OpenFault>
+    ensures { IsLoaded (λ values. values) (columns_stored (OneText text.now) table.now) result }
 {
+    let body = tree_of(alloc, text)?;
     let mut values = NamedValues::new(alloc);
     for (name, column) in table.columns() {
         if !is_own(name.as_str()) {
-            let datum = value_of(alloc, body, name.as_str(), column)?;
+            let datum = value_of(alloc, &body, name.as_str(), column)?;
             values.insert(String::from_str(alloc, name.as_str())?, datum)?;
         }
     }
@@ -168,8 +170,9 @@ fn value_of(
     name: &str,
     column: &Column,
 ) -> Result<Datum, OpenFault>
-    ensures { IsLoaded (λ datum. datum) (value_from (trees_in
-        (option_map view body.now) name.now) column.now) result }
+    ensures { IsLoaded (λ datum. datum) (option_and_then
+        (λ d. if_fits column.now (reads no_names (kinds_of column.now.type_of) d))
+        (option_and_then (find.get name.now) (option_map view body.now))) result }
 {
     let Some(body) = body else {
         return Err(OpenFault::BadBody);
@@ -182,7 +185,8 @@ fn value_of(
 
 /// The value that a tree stands for, if it fits the column.
 pub(crate) fn value_in(alloc: Global, tree: &Value, column: &Column) -> Result<Datum, OpenFault>
-    ensures { IsLoaded (λ datum. datum) (value_from (Some (view tree.now)) column.now) result }
+    ensures { IsLoaded (λ datum. datum) (if_fits column.now
+        (reads no_names (kinds_of column.now.type_of) (view tree.now))) result }
 {
     match read_datum(alloc, tree, column.kinds(), &NoNames) {
         Ok(datum) if column.fits(&datum) => Ok(datum),

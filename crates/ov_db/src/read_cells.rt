@@ -2,11 +2,10 @@ ghost use Rattle.std.specs.Prelude.{◌≡◌, IfOk, Some};
 ghost use Rattle.std.specs.FinMap.{keys};
 ghost use Rattle.ov_rows.specs.Named.{DoAscend};
 ghost use Rattle.ov_specs.specs.rows.Cells.{cells_of};
-ghost use Rattle.ov_specs.specs.rows.Held.{OfCells, row_of_body};
+ghost use Rattle.ov_specs.specs.rows.Held.{OfCells, row_of_body, value_held};
 ghost use Rattle.ov_keeper.specs.Views.{cells_view};
 ghost use Rattle.ov_db.specs.Loading.{IsLoaded, cells_entry};
-ghost use Rattle.ov_db.specs.Stored.{AreCellsRead, columns_stored, row_stored};
-ghost use Rattle.ov_db.specs.Stored.{value_stored};
+ghost use Rattle.ov_db.specs.Stored.{AreCellsRead, columns_stored, named, row_stored};
 
 use crate::cells::{are_cells_of, are_same, body_at, cells_of};
 use crate::fault::OpenFault;
@@ -163,7 +162,7 @@ fn value_in_cell(
     name: &str,
     column: &Column,
 ) -> Result<Datum, OpenFault>
-    ensures { IsLoaded (λ datum. datum) (value_stored (OfCells (cells_view cells.now))
+    ensures { IsLoaded (named name.now) (value_held (OfCells (cells_view cells.now))
         (name.now, column.now)) result }
 {
     let Some(body) = body_at(cells, name) else {

@@ -234,14 +234,14 @@ module _ {K D S W C : Type 0} (ends : S → W → LinkState) (tells : C → ℕ 
   pub hosts_first : (a : Desk K D) (clock : C) → HostsBy ends tells a clock a clock
   hosts_first a clock = record {
     moments = [];
-    told = refl;
+    reported = refl;
     hosts = λ start s. (record { after = s; more = []; adds = sym (append-nil s.since.entries); timed = (refl, refl) }, λ hosted. hosted);
   }
 
   pub hosts_more : (a b c : Desk K D) (clock mid last : C) (at : ℕ) → HostsBy ends tells a clock b mid → tells mid at last → HostsOn ends at b c → HostsBy ends tells a clock c last
   hosts_more a b c clock mid last at x told goes = record {
     moments = x.moments ++ at ∷ [];
-    told = tells_more tells x.moments at clock mid last x.told told;
+    reported = tells_more tells x.moments at clock mid last x.reported told;
     hosts = λ start s.
         let p = x.hosts start s in let q = goes start p.0.after in (
           record {
@@ -260,7 +260,7 @@ module _ {K D S W C : Type 0} (ends : S → W → LinkState) (tells : C → ℕ 
   serves_guests a b clock clock' s none by over left =
       let x = by.hosts a.core s in let t = x.0.after in
       record {
-        lobby = lobby_by tells a b clock clock' s none by.moments by.told x.0 over;
+        lobby = lobby_by tells a b clock clock' s none by.moments by.reported x.0 over;
         guests = λ n low below. elim (x.1 (λ m high early. absurd (omega (arith, high, early))) n low below) [
           | inl (i, l, is, serial) ↦ (guest_of ends b.lanes.items t n i l is serial (left i l is)).0
           | inr (guest, away) ↦ guest

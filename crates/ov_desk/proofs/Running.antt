@@ -217,7 +217,7 @@ briefly old new (Some n) is = is
 
 pub time_of : {K D C : Type 0} (tells : C → ℕ → C → Type 0) (old new : Timed K D C) (mid : State) (opened more entries : List Entry) (moments : List ℕ) → entries ≡ opened ++ more
     → ((reported : ℕ) → AreTimed reported old.core.state opened mid) → Tells tells old.clock moments new.clock → AreTimedBy moments mid more new.core.state → TakesTime tells old entries new
-time_of tells old new mid opened more entries moments parts opens told timed = record { opened = opened; others = more; mid = mid; parts = parts; opens = opens; moments = moments; told = told; timed = timed }
+time_of tells old new mid opened more entries moments parts opens told timed = record { opened = opened; others = more; mid = mid; parts = parts; opens = opens; moments = moments; reported = told; timed = timed }
 
 module _ {K D C : Type 0} (tells : C → ℕ → C → Type 0) (a b : Desk K D) (clock clock' : C) (s : Serves a.core a.core a.lanes.items) (none : s.since.entries ≡ []) where
   -- with these moments

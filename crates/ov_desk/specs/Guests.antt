@@ -49,8 +49,8 @@ SameSession a b = b.session ≡ a.session
 abbrev pub HaveLeft : {S W : Type 0} → (S → W → LinkState) → List (Option Lane) → Type 0
 HaveLeft ends ls = (at : ℕ) (l : Lane) → IsAt ls at l → HasLeft ends l
 
--- The machine was left alone. Each lane stays at its place, and its writer may have been told of what was put for it; or its
--- session has left. Who works at a place fits its lane as before.
+-- The machine was left alone. Each lane stays at its place, and the bell of its writer may have been rung; or its session has
+-- left. The workers at a place fit its lane as before.
 pub record TendsHall {K D S W L : Type 0} (ends : S → W → LinkState) (old new : Hall K D S W L) : Type 0 where
   pub core : new.desk.core ≡ old.desk.core
   pub many : vec_len new.desk.lanes ≡ vec_len old.desk.lanes
@@ -82,6 +82,6 @@ HostsOn {K} {D} ends moment old new =
 -- so it is by the clock
 pub record HostsBy {K D S W C : Type 0} (ends : S → W → LinkState) (tells : C → ℕ → C → Type 0) (old : Desk K D) (clock : C) (new : Desk K D) (clock' : C) : Type 0 where
   pub moments : List ℕ
-  pub told : Tells tells clock moments clock'
+  pub reported : Tells tells clock moments clock'
   pub hosts : (start : CoreState K D) (serves : Serves start old.core old.lanes.items)
       → (by : ServesBy moments serves new) × (AreHosted ends serves → AreHosted ends by.after)

@@ -82,7 +82,7 @@ abbrev pub TakesNoted : ℕ → List (Option Lane) → Bool → List (Option Lan
 TakesNoted serial ls true ms = TakesOne serial ls ms
 TakesNoted serial ls false ms = (ms ≡ ls) × ((at : ℕ) (l : Lane) → IsAt ls at l → l.session.serial ≢ serial)
 
--- only the writer of a lane was told of what was put for it
+-- at most the bell of a lane's writer was rung
 abbrev pub IsTended : Lane → Lane → Type 0
 IsTended a b =
     (b.inbound ≡ a.inbound) × (b.outbound ≡ a.outbound) × (b.session ≡ a.session) × (b.cause ≡ a.cause) × (b.ended ≡ a.ended) × (b.marked ≡ a.marked)

@@ -13,5 +13,5 @@ pub record TakesTime {K D C : Type 0} (tells : C → ℕ → C → Type 0) (old 
   pub parts : entries ≡ opened ++ others
   pub opens : (reported : ℕ) → AreTimed reported old.core.state opened mid
   pub moments : List ℕ
-  pub told : Tells tells old.clock moments new.clock
+  pub reported : Tells tells old.clock moments new.clock
   pub timed : AreTimedBy moments mid others new.core.state

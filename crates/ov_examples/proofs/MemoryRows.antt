@@ -17,7 +17,7 @@ use Rattle.ov_examples.proofs.InsertRows.{net0, numbered, insert_s1, insert_one,
 use Rattle.ov_examples.proofs.NetRows.{owns_none}
 use Rattle.ov_examples.proofs.UpdateRows.{differ, id, m, monitor, on_name, requests}
 
--- ---- two sessions, and what is told of a run
+-- ---- two sessions, and what a run sends
 
 -- at moment 0, with these draws and outcomes
 abbrev entry : Event → List Uuid → List Attempt → Entry
@@ -43,7 +43,7 @@ closed_in n entries = closed_by (opening net0 empty) (history entries) n
 abbrev sent_to : ℕ → List Entry → Option (List ℕ)
 sent_to n entries = option_map (λ t. out n t.sent) (runs entries)
 
--- ---- memory is refused while the update of another session's monitor is made
+-- ---- an allocation fails while the update of another session's monitor is made
 
 -- session 1 has a monitor of names, and session 2 inserts s1
 abbrev unreported : List Entry
@@ -75,7 +75,7 @@ pub who_watches_is_not_closed : closed_in 1 unreported ≡ None
 unfolding digits serde_json_on_literals
 who_watches_is_not_closed = rw switch_table (rw name_column refl)
 
--- ---- memory is refused while a transaction that waits is tried again
+-- ---- an allocation fails while a transaction that waits is tried again
 
 -- a wait for a switch of the name s1
 abbrev wait_for_s1 : Data

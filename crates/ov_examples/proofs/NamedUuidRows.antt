@@ -70,7 +70,7 @@ pub only_inserts_draw : stands_for (codes "p") (codes "[{\"op\":\"select\"},{\"o
 unfolding serde_json_on_literals
 only_inserts_draw = refl
 
--- of two that declare it the first
+-- of two that declare it, it is the first
 pub stands_for_first : stands_for (codes "p") (codes "[{\"op\":\"insert\",\"uuid-name\":\"p\"},{\"op\":\"insert\",\"uuid-name\":\"p\"}]") ≡ Some (numbered 2)
 unfolding serde_json_on_literals
 stands_for_first = refl

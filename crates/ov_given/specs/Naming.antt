@@ -1,5 +1,5 @@
 -- The rows that the inserts of a transaction make, and where their names are declared.
-use Rattle.std.specs.Prelude.{◌≡◌, ℕ, List, refl, Option, Some, None}
+use Rattle.std.specs.Prelude.{◌≡◌, ℕ, List, refl, Option}
 use Rattle.std.specs.BTreeMap.{BTreeMap, get_by}
 use Rattle.std.specs.Cmp.Lexicographic.{slice_cmp}
 use Rattle.std.specs.Coded.{Coded, code_by, coded×, coded_ℕ, coded_list}
@@ -18,11 +18,6 @@ pub record Naming : Type 0 where
 -- both as a pair
 abbrev pub naming_code : Coded Naming
 naming_code = code_by (List Uuid × Items) (coded× (coded_list (coded_list coded_ℕ)) items_code) (λ n. (n.ids, n.operations)) (λ p. record { ids = p.0; operations = p.1 }) (λ _. refl)
-
--- the first of two places, if there is one
-abbrev pub first_of : Option ℕ → Option ℕ → Option ℕ
-first_of None other = other
-first_of (Some place) other = Some place
 
 -- the place that a map has for a name
 abbrev pub place_at : BTreeMap (Bor (List ℕ)) ℕ → List ℕ → Option ℕ

@@ -83,7 +83,7 @@ fn column_mutated(
 }
 
 /// What the mutations, one after another, make of the columns of a row, or the fault of the first that has one. Each value is
-/// tested before the next mutation (RFC 7047, 5.2.4). The names of the columns stay shared.
+/// tested before the next mutation (RFC 7047, 5.2.4). The names and the defaults of the columns stay shared.
 pub fn mutated_columns(
     alloc: Global,
     mutations: &[Mutation<'_>],

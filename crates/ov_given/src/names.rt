@@ -1,7 +1,7 @@
 ghost use Rattle.std.specs.Prelude.{◌≡◌, ℕ, List, IfOk, OnOk, Option, Some, None, unwrap_or};
 ghost use Rattle.std.specs.Prelude.{if◌then◌else◌, option_map};
 ghost use Rattle.std.specs.List.{slice_get};
-ghost use Rattle.std.specs.Option.{option_copied};
+ghost use Rattle.std.specs.Option.{option_copied, option_or};
 ghost use Rattle.std.specs.Str.{bytes_eq};
 ghost use Rattle.serde_json.specs.View.{view, items_view};
 ghost use Rattle.ov_specs.specs.operations.Errors.{DuplicateName};
@@ -11,7 +11,7 @@ ghost use Rattle.ov_specs.specs.operations.NamedUuids.{declares, place_declared}
 ghost use Rattle.ov_specs.specs.operations.NamedUuids.{is_declared_before, inserts_before, id_at};
 ghost use Rattle.ov_specs.specs.operations.OpOutcome.{OpContext};
 ghost use Rattle.ov_specs.specs.schema.Schema.{is_some_and};
-ghost use Rattle.ov_given.specs.Naming.{AreNamePlaces, first_of, place_at};
+ghost use Rattle.ov_given.specs.Naming.{AreNamePlaces, place_at};
 ghost use Rattle.ov_projection.specs.Errors.{error_view};
 
 use ov_atoms::{Names, is_id, read_uuid};
@@ -212,7 +212,7 @@ fn keep_place<'a>(
     place: usize,
 ) -> Result<(), AllocError>
     ensures { OnOk result ((name : List ℕ) → place_at places.new name
-        ≡ first_of (place_at places.old name)
+        ≡ option_or (place_at places.old name)
         (if declares name (view operation.now) then Some place else None)) }
 {
     let Some(name) = name_declared(operation) else {

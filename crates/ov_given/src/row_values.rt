@@ -150,7 +150,7 @@ fn new_values<N: Names>(
 }
 
 /// All columns of the row that an insert makes: the given ones, and the defaults of the others (RFC 7047, 5.2.1). Rows of one
-/// table share the names of their columns.
+/// table share the names and the defaults of their columns.
 pub fn new_row<N: Names>(
     alloc: Global,
     table: &Table,
@@ -164,7 +164,7 @@ pub fn new_row<N: Names>(
     Ok(Columns::sharing(alloc, table.row_shape(), values)?)
 }
 
-/// The columns of a row with the given values in their places (RFC 7047, 5.2.3). Their names stay shared.
+/// The columns of a row with the given values in their places (RFC 7047, 5.2.3). Their names and defaults stay shared.
 pub fn given_over(
     alloc: Global,
     given: &NamedValues,

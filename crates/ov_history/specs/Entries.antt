@@ -65,6 +65,10 @@ choice_view c = record { moment = c.moment; draws = c.draws.items; outcomes = ma
 abbrev pub entry_view : Entry → machine.Entry
 entry_view e = record { event = event_view e.event; choice = choice_view e.choice }
 
+-- what is listed of an attempt, as an outcome of the machine
+abbrev pub listed_of : Option Outcome → Option machine.Outcome
+listed_of outcome = option_map outcome_view outcome
+
 -- what is listed of an attempt, as an attempt of the code
 abbrev pub listed_by : ℕ → Option Outcome → List Attempt
 listed_by number None = []
@@ -77,10 +81,6 @@ is_closing (Some NoMemory) = true
 is_closing (Some Committed) = false
 is_closing (Some Exhausted) = false
 is_closing (Some Failed) = false
-
--- the store kept the changes
-abbrev pub is_kept : Option Outcome → Bool
-is_kept outcome = machine.is_kept (option_map outcome_view outcome)
 
 -- ---- attempts of the machine
 

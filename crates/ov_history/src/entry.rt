@@ -1,7 +1,8 @@
 ghost use Rattle.std.specs.Prelude.{◌≡◌, ◌++◌, ◌+◌, ◌<◌, [], map, length, vec_len};
 ghost use Rattle.std.specs.Prelude.{vec_capacity};
-ghost use Rattle.ov_history.specs.Entries.{attempt_view, event_view, entry_view, listed_by};
-ghost use Rattle.ov_history.specs.Entries.{is_closing, is_kept};
+ghost use Rattle.ov_specs.specs.machine.Machine.{is_kept};
+ghost use Rattle.ov_history.specs.Entries.{attempt_view, event_view, entry_view};
+ghost use Rattle.ov_history.specs.Entries.{is_closing, listed_by, listed_of};
 
 use crate::event::{Attempt, Choice, Entry, Event, Outcome};
 use ov_rpc::MessageText;
@@ -79,7 +80,7 @@ pub fn is_closing(outcome: Option<Outcome>) -> bool
 
 /// Whether the store kept the changes.
 pub fn is_kept(outcome: Option<Outcome>) -> bool
-    ensures { result ≡ is_kept outcome }
+    ensures { result ≡ is_kept (listed_of outcome) }
 {
     matches!(outcome, Some(Outcome::Committed))
 }

@@ -12,7 +12,7 @@ use Rattle.ov_specs.proofs.laws.Truths.{equal_is}
 use Rattle.ov_rows.proofs.Maps.{get-lookup, from_sorted-insert, from_sorted-nil}
 use Rattle.ov_index.specs.Collecting.{with_entry}
 use Rattle.ov_index.specs.IndexKeys.{IndexKey, IndexEntry, index_cmp}
-use Rattle.ov_index.specs.Indexing.{IdSet, Indexes, indexes_of, is_indexed, lacking, has_none, without_none}
+use Rattle.ov_index.specs.Indexing.{IdSet, Indexes, indexes_of, is_indexed, lacking, has_no_rows, without_none}
 use Rattle.ov_index.specs.KeyOrder.{index_total, index_exact}
 
 abbrev pub Entries : Type 0
@@ -67,11 +67,11 @@ pub lacking-none : (es : Entries) (e : IndexEntry) → T (is_sorted index_cmp es
 lacking-none es e h none = ap (λ o. lacking o e (indexes_of es)) (none ∙ sym (get-indexes_of es e.key h))
 
 -- if there is no row at the key, it goes
-pub without_none-goes : (key : IndexKey) (indexes : Indexes) → has_none (get indexes key) ≡ true → remove indexes key ≡ without_none key indexes
+pub without_none-goes : (key : IndexKey) (indexes : Indexes) → has_no_rows (get indexes key) ≡ true → remove indexes key ≡ without_none key indexes
 without_none-goes key indexes is = ap (λ b. cond b (remove indexes key) indexes) (sym is)
 
 -- and else it stays
-pub without_none-stays : (key : IndexKey) (indexes : Indexes) → has_none (get indexes key) ≡ false → indexes ≡ without_none key indexes
+pub without_none-stays : (key : IndexKey) (indexes : Indexes) → has_no_rows (get indexes key) ≡ false → indexes ≡ without_none key indexes
 without_none-stays key indexes is = ap (λ b. cond b (remove indexes key) indexes) (sym is)
 
 -- the rows at a key say whether a row is among them

@@ -13,7 +13,7 @@ use Rattle.ov_specs.proofs.laws.Names.{name_cmp_total}
 use Rattle.ov_specs.proofs.laws.Truths.{equal_is, zero_is}
 use Rattle.ov_index.specs.Collecting.{is_entry, has_entry, with_entry, with_entries}
 use Rattle.ov_index.specs.IndexKeys.{IndexKey, IndexEntry, index_cmp, same_index_key}
-use Rattle.ov_index.specs.Indexing.{IdSet, Indexes, ids_at, is_indexed, lacking, has_none, without_none, without_entry, without_entries}
+use Rattle.ov_index.specs.Indexing.{IdSet, Indexes, ids_at, is_indexed, lacking, has_no_rows, without_none, without_entry, without_entries}
 use Rattle.ov_index.specs.KeyOrder.{index_total, index_exact}
 
 -- ---- keys
@@ -110,18 +110,18 @@ module _ (indexes : Indexes) (at : IndexKey) (key : IndexKey) (id : Uuid) where
   abbrev found_in : Option IdSet → Bool
   found_in o = is_some_and (λ set. contains_key set id) o
 
-  nobody : (o : Option IdSet) → has_none o ≡ true → false ≡ found_in o
+  nobody : (o : Option IdSet) → has_no_rows o ≡ true → false ≡ found_in o
   nobody None h = refl
   nobody (Some set) h = sym (ap (λ (s : IdSet). contains_key s id) (empty_of_len set (zero_is (len set) h)) ∙ ap is_some (get-empty id_cmp id))
 
   indexed-without_none : is_indexed (without_none at indexes) key id ≡ is_indexed indexes key id
-  indexed-without_none = by (has_none (get indexes at)) refl
+  indexed-without_none = by (has_no_rows (get indexes at)) refl
     where
-      turn : has_none (get indexes at) ≡ true → (b : Bool) → eq_by_cmp index_cmp key at ≡ b → found_in (cond b None (get indexes key)) ≡ found_in (get indexes key)
+      turn : has_no_rows (get indexes at) ≡ true → (b : Bool) → eq_by_cmp index_cmp key at ≡ b → found_in (cond b None (get indexes key)) ≡ found_in (get indexes key)
       turn none true is = nobody (get indexes at) none ∙ ap (λ k. is_indexed indexes k id) (sym (index_exact key at (equal_is _ is)))
       turn none false is = refl
 
-      by : (b : Bool) → has_none (get indexes at) ≡ b → is_indexed (cond b (remove indexes at) indexes) key id ≡ is_indexed indexes key id
+      by : (b : Bool) → has_no_rows (get indexes at) ≡ b → is_indexed (cond b (remove indexes at) indexes) key id ≡ is_indexed indexes key id
       by true none = ap found_in (get-remove index_total indexes at key) ∙ turn none (eq_by_cmp index_cmp key at) refl
       by false some = refl
 

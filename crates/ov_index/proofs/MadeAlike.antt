@@ -23,7 +23,7 @@ use Rattle.ov_specs.proofs.laws.Truths.{zero_is}
 use Rattle.ov_index.specs.Changing.{are_any_alike, TellsAlike}
 use Rattle.ov_index.specs.Collecting.{has_entry, entries_of_row, with_entry, with_entries, with_changes, has_two, has_unchanged, is_shared}
 use Rattle.ov_index.specs.IndexKeys.{IndexKey, IndexEntry, index_cmp}
-use Rattle.ov_index.specs.Indexing.{IdSet, Indexes, ids_at, is_indexed, is_at, is_in, has_none, AreIndexesOf}
+use Rattle.ov_index.specs.Indexing.{IdSet, Indexes, ids_at, is_indexed, is_at, is_in, has_no_rows, AreIndexesOf}
 use Rattle.ov_index.specs.KeyOrder.{index_total, index_exact}
 use Rattle.ov_index.proofs.Duplicates.{RowAt, IsShared, alike_shared, shared_alike}
 use Rattle.ov_index.proofs.Kept.{or_false, or_three, indexed-with_entries, none_indexed}
@@ -90,7 +90,7 @@ indexed-with_changes schema (c ∷ cs) indexes key id =
 
 -- no key is left without rows
 abbrev HasRows : Indexes → Type 0
-HasRows indexes = (key : IndexKey) → has_none (get indexes key) ≡ false
+HasRows indexes = (key : IndexKey) → has_no_rows (get indexes key) ≡ false
 
 not_zero : (set : IdSet) (id : Uuid) → contains_key set id ≡ true → (len set == 0) ≡ false
 not_zero set id there = by (len set == 0) refl
@@ -101,7 +101,7 @@ not_zero set id there = by (len set == 0) refl
         absurd (contradicts (contains_key set id) there (ap (λ (s : IdSet). contains_key s id) (empty_of_len set (zero_is (len set) is)) ∙ ap is_some (get-empty id_cmp id)))
 
 has_rows-with : (e : IndexEntry) (indexes : Indexes) → HasRows indexes → HasRows (with_entry e indexes)
-has_rows-with e indexes has key = ap has_none (get-insert index_total indexes e.key (insert (ids_at indexes e.key) e.id tt) key) ∙ by (eq_by_cmp index_cmp key e.key)
+has_rows-with e indexes has key = ap has_no_rows (get-insert index_total indexes e.key (insert (ids_at indexes e.key) e.id tt) key) ∙ by (eq_by_cmp index_cmp key e.key)
   where
     set : IdSet
     set = insert (ids_at indexes e.key) e.id tt
@@ -112,7 +112,7 @@ has_rows-with e indexes has key = ap has_none (get-insert index_total indexes e.
         itself : (id : Uuid) → eq_by_cmp id_cmp id id ≡ true
         itself id = (eq_by_cmp_equiv name_cmp_total).refl id
 
-    by : (b : Bool) → has_none (cond b (Some set) (get indexes key)) ≡ false
+    by : (b : Bool) → has_no_rows (cond b (Some set) (get indexes key)) ≡ false
     by true = not_zero set e.id there
     by false = has key
 
@@ -125,7 +125,7 @@ has_rows-changes schema [] indexes has = has
 has_rows-changes schema (c ∷ cs) indexes has = has_rows-changes schema cs (with_entries (entries_of_row schema c.0 c.1) indexes) (has_rows-entries (entries_of_row schema c.0 c.1) indexes has)
 
 has_rows-empty : HasRows empty
-has_rows-empty key = ap has_none (get-empty index_cmp key)
+has_rows-empty key = ap has_no_rows (get-empty index_cmp key)
 
 module _ (schema : Schema) (indexes : Indexes) (changes : Changes) (sorted : T (is_sorted line_cmp changes)) (before after : Database) (are : AreIndexesOf schema before indexes) (is_after : IsAfter changes before after) where
   abbrev changed : Indexes
@@ -205,7 +205,7 @@ module _ (schema : Schema) (indexes : Indexes) (changes : Changes) (sorted : T (
           let two = two_ids ids many in
           two_apart schema after key two.0 two.1 two.2.2 (put_after key two.0 (kept_in changed key two.0 ids at two.2.0)).1 (put_after key two.1 (kept_in changed key two.1 ids at two.2.1)).1
       by false few any =
-          let one = one_id ids (sym (ap has_none at) ∙ has_rows-changes schema changes empty has_rows-empty key) in
+          let one = one_id ids (sym (ap has_no_rows at) ∙ has_rows-changes schema changes empty has_rows-empty key) in
           let other = any_id_is (λ id. not (contains_key (from_sorted {R = line_cmp} changes) (key.table, id))) (ids_at indexes key) any in
           let put = put_after key one.0 (kept_in changed key one.0 ids at one.1) in
           let still = not_is (is_some (change_at (key.table, other.0))) other.2 in

@@ -40,10 +40,12 @@ pub record IndexEntry : Type 0 where
 
 -- ---- how models store them
 
+-- a key as nested pairs
 abbrev pub index_key_code : Coded IndexKey
 index_key_code =
     code_by (List ℕ × (ℕ × List Datum)) (coded× (coded_list coded_ℕ) (coded× coded_ℕ (coded_list datum_code)))
     (λ k. (k.table, (k.number, k.values))) (λ p. record { table = p.0; number = p.1.0; values = p.1.1 }) (λ _. refl)
 
+-- an entry as a pair
 abbrev pub index_entry_code : Coded IndexEntry
 index_entry_code = code_by (IndexKey × Uuid) (coded× index_key_code (coded_list coded_ℕ)) (λ e. (e.key, e.id)) (λ p. record { key = p.0; id = p.1 }) (λ _. refl)

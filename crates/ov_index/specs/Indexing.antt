@@ -55,12 +55,12 @@ lacking None entry indexes = indexes
 lacking (Some ids) entry indexes = insert indexes entry.key (remove ids entry.id)
 
 -- there is such a key, and it has no row
-abbrev pub has_none : Option IdSet → Bool
-has_none ids = is_some_and (λ set. len set == 0) ids
+abbrev pub has_no_rows : Option IdSet → Bool
+has_no_rows ids = is_some_and (λ set. len set == 0) ids
 
 -- without the key, if no row is left there
 abbrev pub without_none : IndexKey → Indexes → Indexes
-without_none key indexes = if has_none (get indexes key) then remove indexes key else indexes
+without_none key indexes = if has_no_rows (get indexes key) then remove indexes key else indexes
 
 -- without the entry
 abbrev pub without_entry : IndexEntry → Indexes → Indexes
@@ -85,8 +85,10 @@ set_of_ids ids = map.from_sorted {R = id_cmp} (map marked ids)
 abbrev pub indexes_of : List (IndexKey × IdSet) → Indexes
 indexes_of es = map.from_sorted {R = index_cmp} es
 
+-- a set of identifiers, by its entries
 abbrev pub id_set_code : Coded IdSet
 id_set_code = map.code (coded_list coded_ℕ) coded_unit
 
+-- indexes, by their entries
 abbrev pub indexes_code : Coded Indexes
 indexes_code = map.code index_key_code id_set_code

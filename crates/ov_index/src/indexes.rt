@@ -2,7 +2,7 @@ ghost use Rattle.std.specs.Prelude.{◌≡◌, not, option_copied, IfOk, OnOk, O
 ghost use Rattle.std.specs.FinMap.{empty, get, remove, entries};
 ghost use Rattle.ov_index.specs.Collecting.{entries_in, with_entry, with_entries, with_entries_of_rows};
 ghost use Rattle.ov_index.specs.Collecting.{has_indexes};
-ghost use Rattle.ov_index.specs.Indexing.{AreIndexesOf, is_indexed, lacking, has_none};
+ghost use Rattle.ov_index.specs.Indexing.{AreIndexesOf, is_indexed, lacking, has_no_rows};
 ghost use Rattle.ov_index.specs.Indexing.{without_entry, without_entries};
 ghost use Rattle.ov_rows.specs.Nested.{in_table};
 
@@ -155,7 +155,7 @@ impl Indexes {
     /// Removes the row of the entry from its key, and returns whether no row is left there.
     fn lose(&mut self, entry: &IndexEntry) -> bool
         ensures lost { self.new ≡ lacking (get self.old entry.now.key) entry.now self.old }
-        ensures left { result ≡ has_none (get self.new entry.now.key) }
+        ensures left { result ≡ has_no_rows (get self.new entry.now.key) }
     {
         match self.of.get_mut(&entry.key) {
             Some(ids) => {

@@ -14,7 +14,7 @@ use Rattle.ov_db.proofs.Places.{find-rest, sorted-rest, or_before, get-applied}
 use Rattle.ov_refs.specs.Holding.{KeySet, Holders, is_holder, with_holder}
 use Rattle.ov_refs.specs.Linking.{Links, is_strong_in, with_target, with_targets}
 use Rattle.ov_refs.proofs.Collecting.{strong-targets}
-use Rattle.ov_integrity.specs.Changes.{Changes, AreChanges, with_strong, with_strong_ones, with_key, with_changed_row}
+use Rattle.ov_integrity.specs.Changes.{Changes, AreChanges, with_strong, with_strong_ones, with_changed_key, with_changed_row}
 
 -- with each of these changes
 abbrev pub with_changes : Schema → List (LineKey × Option Row) → Changes → Changes
@@ -69,7 +69,7 @@ keys-strong_ones from (target ∷ targets) changes = keys-strong_ones from targe
 
 keys-change : (schema : Schema) (e : LineKey × Option Row) (changes : Changes) → (with_changed_row schema e changes).keys ≡ insert changes.keys e.0 tt
 keys-change schema (key, None) changes = refl
-keys-change schema (key, Some row) changes = keys-strong_ones key (row_targets schema (key, row)) (with_key key changes)
+keys-change schema (key, Some row) changes = keys-strong_ones key (row_targets schema (key, row)) (with_changed_key key changes)
 
 contains-insert : (set : KeySet) (key q : LineKey) → contains_key (insert set key tt) q ≡ (contains_key set q || same_key q key)
 contains-insert set key q =
@@ -109,7 +109,7 @@ module _ (schema : Schema) (to from : LineKey) where
   strong-change (key, None) changes = nothing_more (is_holder changes.strong to from) (same_key from key)
   strong-change (key, Some row) changes =
       let links : Links = record { strong = changes.strong; weak = changes.strong } in
-      ap (λ (holders : Holders). is_holder holders to from) (strong-ones key (row_targets schema (key, row)) (with_key key changes) links refl)
+      ap (λ (holders : Holders). is_holder holders to from) (strong-ones key (row_targets schema (key, row)) (with_changed_key key changes) links refl)
       ∙ strong-targets to from key (row_targets schema (key, row)) links
 
   strong-changes : (es : List (LineKey × Option Row)) (changes : Changes)

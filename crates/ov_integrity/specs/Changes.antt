@@ -34,11 +34,11 @@ abbrev pub with_strong_ones : LineKey → List Target → Changes → Changes
 with_strong_ones from [] changes = changes
 with_strong_ones from (target ∷ targets) changes = with_strong_ones from targets (with_strong from target changes)
 
--- with the key
-abbrev pub with_key : LineKey → Changes → Changes
-with_key key changes = record changes { keys = insert changes.keys key tt }
+-- with this key among the changed ones
+abbrev pub with_changed_key : LineKey → Changes → Changes
+with_changed_key key changes = record changes { keys = insert changes.keys key tt }
 
 -- with a change
 abbrev pub with_changed_row : Schema → LineKey × Option Row → Changes → Changes
-with_changed_row schema (key, None) changes = with_key key changes
-with_changed_row schema (key, Some row) changes = with_strong_ones key (row_targets schema (key, row)) (with_key key changes)
+with_changed_row schema (key, None) changes = with_changed_key key changes
+with_changed_row schema (key, Some row) changes = with_strong_ones key (row_targets schema (key, row)) (with_changed_key key changes)

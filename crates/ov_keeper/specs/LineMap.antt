@@ -15,10 +15,11 @@ abbrev pub spare_in : LineMap → ℕ
 spare_in map = spare map.rows
 
 -- the rows of a keeper, which has no map before its first commit or rewrite
-abbrev pub lines_held : Option LineMap → CellLines
-lines_held None = empty
-lines_held (Some map) = lines_in map
+abbrev pub lines_of_map : Option LineMap → CellLines
+lines_of_map None = empty
+lines_of_map (Some map) = lines_in map
 
+-- the change puts a row
 abbrev pub is_put : CellChange → Bool
 is_put (PutCells key line) = true
 is_put (RemoveCells key) = false

@@ -2,7 +2,7 @@ ghost use Rattle.std.specs.Prelude.{◌≡◌, ◌↔◌, IfOk, OnOk, OnErr};
 ghost use Rattle.std.specs.FinMap.{empty};
 ghost use Rattle.ov_specs.specs.rows.Cells.{Stored, InCells, after_cell_changes, rewritten};
 ghost use Rattle.ov_keeper.specs.Keeping.{loaded_contents};
-ghost use Rattle.ov_keeper.specs.LineMap.{lines_held};
+ghost use Rattle.ov_keeper.specs.LineMap.{lines_of_map};
 ghost use Rattle.ov_keeper.specs.VolatileKeeper.{contents_of};
 ghost use Rattle.ov_keeper.specs.Views.{changes_view};
 
@@ -30,13 +30,13 @@ impl Model for VolatileKeeper {
     ghost use Rattle.std.specs.Coded.{coded×, coded_ℕ, coded_list};
     ghost use Rattle.ov_specs.specs.rows.Cells.{CellLines};
     ghost use Rattle.ov_keeper.specs.CellCode.{cell_lines_code};
-    ghost use Rattle.ov_keeper.specs.LineMap.{lines_held};
+    ghost use Rattle.ov_keeper.specs.LineMap.{lines_of_map};
 
     ghost Value = { List ℕ × CellLines };
 
     ghost coded = { coded× (coded_list coded_ℕ) cell_lines_code };
 
-    ghost view = { λ k. (k.schema, lines_held k.lines) };
+    ghost view = { λ k. (k.schema, lines_of_map k.lines) };
 }
 
 impl Drop for VolatileKeeper {
@@ -164,9 +164,9 @@ fn commit_lines(
     lines: &mut Option<LineMap>,
     changes: &[Change],
 ) -> Result<(), AllocError>
-    ensures ok { OnOk result (lines_held lines.new ≡ after_cell_changes (changes_view changes.now)
-        (lines_held lines.old)) }
-    ensures err { OnErr result (lines_held lines.new ≡ lines_held lines.old) }
+    ensures ok { OnOk result (lines_of_map lines.new ≡ after_cell_changes (changes_view changes.now)
+        (lines_of_map lines.old)) }
+    ensures err { OnErr result (lines_of_map lines.new ≡ lines_of_map lines.old) }
 {
     match lines {
         Some(map) => map.commit(alloc, changes),

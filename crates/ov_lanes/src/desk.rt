@@ -80,7 +80,7 @@ impl<K: Keeper + Drop, D: Draws + Drop> Desk<K, D> {
         true
     }
 
-    /// Moves what waits for the session at a place. Returns whether it was closed for want of room.
+    /// Moves what waits for the session at a place. Returns whether it was closed because its ring had no room.
     fn flush_at(&mut self, at: usize) -> bool
         requires { at < vec_len self.old.lanes }
         ensures flushes { FlushesDesk K.is_honest self.old self.new }
@@ -97,7 +97,7 @@ impl<K: Keeper + Drop, D: Draws + Drop> Desk<K, D> {
         }
     }
 
-    /// Moves what waits for each session, once. Returns whether one of them was closed for want of room.
+    /// Moves what waits for each session, once. Returns whether one of them was closed because its ring had no room.
     fn flush_each(&mut self) -> bool
         ensures flushes { FlushesDesk K.is_honest self.old self.new }
         ensures fewer { result ≡ true

@@ -85,7 +85,7 @@ pub record Goes (rules : Rules) (start : Start) (kept : List Database) (s : Stat
   pub stays : (d : Database) → start.sealed ≡ Some d → (s.sealed ≡ Some d) × (kept ≡ [])
   pub waiting : AllByRecursion (λ o. rules.IsTaken (arrival_of o)) s.outstanding
 
--- one way after another
+-- what holds after some attempts and then after more holds after all of them
 pub goes_then : (rules : Rules) (IsEarlier : Arrival → Type 0) (start : Start) (kept more : List Database) (s t : State)
     → Goes (record rules { IsTaken = IsEarlier }) start kept s → Goes rules (start_at (after_all start.number kept) s) more t
     → Goes rules start (kept ++ more) t
@@ -109,8 +109,8 @@ length-and_kept : (kept : List Database) (b : Bool) (d : Database) → length (a
 length-and_kept kept true d = length-append kept (d ∷ [])
 length-and_kept kept false d = omega arith
 
--- What an entry is to know of its event: what was taken, that attempts make what is to be made, and that results reply to what
--- is to be told.
+-- What an entry is to know of its event: what was taken, that attempts make what is to be made, and that the results are those of
+-- the replies.
 pub record Entering (rules : Rules) (T : List Database → ℕ → Data → Items → Type 0) (n : ℕ) (s : State) (c : Choice) (what : Event) : Type 0 where
   pub there : s.schema ≡ rules.schema
   pub waiting : AllByRecursion (λ o. rules.IsTaken (arrival_of o)) s.outstanding
@@ -382,7 +382,7 @@ module _ (rules : Rules) (T : List Database → ℕ → Data → Items → Type 
 
   -- ---- by event
 
-  -- nothing is kept, and nothing is told
+  -- nothing is kept, and no reply is sent
   other : (Told → ⊥) → (x : Stepped) → x.state.schema ≡ s0.schema → x.state.database ≡ s0.database → x.state.sealed ≡ s0.sealed → AllByRecursion Its x.state.outstanding → Course [] x.state x.sent
   other not_told x schema_is database sealed all = aside [] s0 [] none x schema_is database sealed all (λ told. absurd (not_told told))
 
@@ -470,7 +470,7 @@ step_goes rules T n s e t ok h =
 
 -- ---- a run
 
--- nothing is told
+-- nothing is asked of the replies
 abbrev pub no_reply : List Database → ℕ → Data → Items → Type 0
 no_reply ds session id results = Unit {0}
 

@@ -10,7 +10,7 @@ use Rattle.ov_specs.proofs.laws.Settling.{IsNoMore, no_more-same, no_more-closed
 use Rattle.ov_specs.proofs.laws.SettlingOn.{settles_on, settles_again, settle-begins, pass-skips, on-tries, on-changes}
 use Rattle.ov_specs.proofs.laws.Tries.{emptied, map_some, then_some, pass_first}
 use Rattle.ov_specs.proofs.laws.Works.{try_has}
-use Rattle.ov_laws.specs.Settling.{Settles, ends, goes_on, begins_again, IsSettling}
+use Rattle.ov_specs.specs.machine.Settling.{Settles, ends, goes_on, begins_again, IsSettling}
 use Rattle.ov_laws.proofs.Attempts.{try_is, other_database}
 
 -- ---- lists

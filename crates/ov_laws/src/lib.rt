@@ -41,7 +41,7 @@ ghost use Rattle.ov_laws.specs.Databases.{databases, IsLastOf, kept_by, commits_
 ghost use Rattle.ov_laws.specs.Making.{tried_in, Makes, RepliesTo, takes_another};
 ghost use Rattle.ov_laws.specs.Requests.{AreAskedFor};
 ghost use Rattle.ov_laws.specs.Values.{value_at};
-ghost use Rattle.ov_laws.specs.Settling.{IsSettling};
+ghost use Rattle.ov_specs.specs.machine.Settling.{IsSettling};
 ghost use Rattle.ov_laws.specs.Updating.{SendsUpdatesFirst, SendsAtMostReply};
 
 /// The relation and the program give the same cuts of every stream.

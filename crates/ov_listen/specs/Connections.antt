@@ -20,10 +20,11 @@ use Rattle.ov_words.specs.declared.ending.Ending.{Ending}
 use Rattle.ov_words.specs.declared.ending.Ending.TheVariants as ending
 use Rattle.ov_listen.specs.Endings.{by_listening, by_serving}
 
--- the ends of a connection
+-- the end of a connection from which its bytes are read
 abbrev pub SocketReader : Type 0
 SocketReader = Watched (Bor TcpStream)
 
+-- the end to which bytes are written, with a buffer
 abbrev pub SocketWriter : Type 0
 SocketWriter = Watched (BufWriter (Bor TcpStream) Global)
 
@@ -35,8 +36,8 @@ socket_ends reader writer = record {
 }
 
 module _ {K D C : Type 0} where
-  -- So many connections were not served, the clock told nothing, and the ending is that of the fault: the links could not be
-  -- allocated, and the core is as it was; or they were refused, and nothing was read from them or written to them.
+  -- This many connections were not served, the clock reported nothing, and the ending is that of the fault: the links could not
+  -- be allocated, and the core is as it was; or they were refused, and nothing was read from them or written to them.
   abbrev pub RefusesConnections : Timed K D C → ℕ → Ending → Timed K D C → Type 0
   RefusesConnections old count told new =
       (new.clock ≡ old.clock) × (((told ≡ ending.Memory) × (new.core ≡ old.core))

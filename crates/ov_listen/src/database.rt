@@ -2,7 +2,7 @@
 
 ghost use Rattle.std.specs.Prelude.{◌≡◌, IfNone, IfSome};
 ghost use Rattle.sqlite_wal.specs.Files.{image_at};
-ghost use Rattle.ov_pipes.specs.Pipes.{state_of};
+ghost use Rattle.ov_pipes.specs.Pipes.{pipes_state};
 ghost use Rattle.ov_listen.specs.Databases.{EndsMemory, IsInFile, IsInMemory, ending_of};
 ghost use Rattle.ov_listen.specs.Files.{EndsFile};
 ghost use Rattle.ov_listen.specs.Environment.{environment_of};
@@ -75,7 +75,7 @@ where
     W: Sink,
     C: Clock,
     ensures ends { EndsMemory (environment_of ⟦<VolatileKeeper as Keeper>⟧ D.draws C.tells) service
-        (state_of S.Source W.Sink pipes.old) result (state_of S.Source W.Sink pipes.new) }
+        (pipes_state S.Source W.Sink pipes.old) result (pipes_state S.Source W.Sink pipes.new) }
     ensures honest { (keeper : _) → ⟦<VolatileKeeper as Keeper>⟧.is_honest keeper }
 {
     let Service {
@@ -117,13 +117,13 @@ where
     ensures memory { IfNone path
         (IsInMemory result
         (λ ended. EndsMemory (environment_of ⟦<VolatileKeeper as Keeper>⟧ D.draws C.tells) service
-        (state_of S.Source W.Sink pipes.old) ended (state_of S.Source W.Sink pipes.new))) }
+        (pipes_state S.Source W.Sink pipes.old) ended (pipes_state S.Source W.Sink pipes.new))) }
     ensures file { IfSome path
         (λ _. IsInFile result
         (λ ended. EndsFile
         (environment_of ⟦<Store<FileStore<FileFrom<T>>> as Keeper>⟧ D.draws C.tells)
         (image_at T.Start) service
-        (state_of S.Source W.Sink pipes.old) ended (state_of S.Source W.Sink pipes.new))) }
+        (pipes_state S.Source W.Sink pipes.old) ended (pipes_state S.Source W.Sink pipes.new))) }
 {
     match path {
         None => DatabaseEnded::Memory(serve_memory(rt, host.alloc(), service, pipes)),

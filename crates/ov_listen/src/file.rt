@@ -1,6 +1,6 @@
 //! Sessions of the database in a file.
 ghost use Rattle.sqlite_wal.specs.Files.{image_at};
-ghost use Rattle.ov_pipes.specs.Pipes.{state_of};
+ghost use Rattle.ov_pipes.specs.Pipes.{pipes_state};
 ghost use Rattle.ov_listen.specs.Files.{EndsFile, EndsStore};
 ghost use Rattle.ov_listen.specs.Environment.{environment_of};
 
@@ -42,7 +42,7 @@ where
     W: Sink,
     C: Clock,
     ensures { EndsStore (environment_of K.Keeper D.draws C.tells) store offer
-        (state_of S.Source W.Sink pipes.old) result (state_of S.Source W.Sink pipes.new) }
+        (pipes_state S.Source W.Sink pipes.old) result (pipes_state S.Source W.Sink pipes.new) }
 {
     let keeper = match store {
         Ok(keeper) => keeper,
@@ -77,8 +77,8 @@ where
     W: Sink,
     C: Clock,
     ensures { EndsFile (environment_of ⟦<Store<FileStore<FileFrom<T>>> as Keeper>⟧ D.draws C.tells)
-        (image_at T.Start) service (state_of S.Source W.Sink pipes.old) result
-        (state_of S.Source W.Sink pipes.new) }
+        (image_at T.Start) service (pipes_state S.Source W.Sink pipes.old) result
+        (pipes_state S.Source W.Sink pipes.new) }
 {
     let Service {
         schema,

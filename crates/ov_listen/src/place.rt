@@ -1,7 +1,7 @@
 //! Where sessions of the database that a keeper holds are served.
 
 ghost use Rattle.std.specs.Prelude.{◌≡◌, IfOk, IfErr, OnErr};
-ghost use Rattle.ov_pipes.specs.Pipes.{state_of};
+ghost use Rattle.ov_pipes.specs.Pipes.{pipes_state};
 ghost use Rattle.ov_pipes.specs.Session.{server_over};
 ghost use Rattle.ov_listen.specs.Environment.{environment_of};
 ghost use Rattle.ov_listen.specs.Places.{EndsPlace, RefusesPlace, ServesPlace};
@@ -64,7 +64,7 @@ where
     C: Clock,
     ensures served { IfOk result
         (λ ended. ServesPlace (environment_of K.Keeper D.draws C.tells) keeper offer
-        (state_of S.Source W.Sink pipes.old) ended (state_of S.Source W.Sink pipes.new)) }
+        (pipes_state S.Source W.Sink pipes.old) ended (pipes_state S.Source W.Sink pipes.new)) }
     ensures refused { IfErr result
         (λ refused. RefusesPlace (environment_of K.Keeper D.draws C.tells) keeper offer refused) }
     ensures untouched { OnErr result (pipes.new ≡ pipes.old) }
@@ -101,8 +101,8 @@ where
     W: Sink,
     C: Clock,
     ensures ends { EndsPlace C.tells place
-        (server_over core (state_of S.Source W.Sink pipes.old)) result.ending
-        (server_over result.core (state_of S.Source W.Sink pipes.new)) }
+        (server_over core (pipes_state S.Source W.Sink pipes.old)) result.ending
+        (server_over result.core (pipes_state S.Source W.Sink pipes.new)) }
     ensures honest { K.is_honest result.core.keeper → K.is_honest core.keeper }
 {
     match place {

@@ -15,7 +15,7 @@ use Rattle.std.specs.Prelude.{unwrap_or}
 use Rattle.std.specs.Set.{remove_key}
 use Rattle.ov_specs.specs.schema.SchemaTypes.{name_cmp}
 use Rattle.ov_specs.proofs.laws.Lists.{any-map}
-use Rattle.ov_locks.specs.Held.{NameSet, names_in, names_of_set, names_taken, requests_in, held_of}
+use Rattle.ov_locks.specs.Held.{NameSet, names_asked, names_of_set, names_taken, requests_in, held_of}
 use Rattle.ov_locks.proofs.Named.{text_order, text_is}
 
 abbrev pub Sets : Type 0
@@ -32,7 +32,7 @@ lookup-held test [] = refl
 lookup-held test (e ∷ es) = found_more (test e.0) e.1 (lookup test (held_of es)) (lookup test es) (lookup-held test es)
 
 -- the names of a session are those of its set
-pub names-found : (session : ℕ) (es : Sets) → names_in session (held_of es) ≡ names_taken (lookup (is_at (nat_cmp session)) es)
+pub names-found : (session : ℕ) (es : Sets) → names_asked session (held_of es) ≡ names_taken (lookup (is_at (nat_cmp session)) es)
 names-found session es = ap (λ o. unwrap_or o []) (lookup-held (is_at (nat_cmp session)) es)
 
 same_test : (a b : ℕ) → is_at (nat_cmp a) b ≡ eqb b a
@@ -46,7 +46,7 @@ same_test a b = elim (cases_order a b) [
 
 -- after the set of one session has become another
 pub names-after : (session : ℕ) (w : Option NameSet) (es es' : Sets) → ((q : ℕ) → lookup (is_at (nat_cmp q)) es' ≡ cond (is_at (nat_cmp session) q) w (lookup (is_at (nat_cmp q)) es))
-    → (other : ℕ) → names_in other (held_of es') ≡ cond (eqb other session) (names_taken w) (names_in other (held_of es))
+    → (other : ℕ) → names_asked other (held_of es') ≡ cond (eqb other session) (names_taken w) (names_asked other (held_of es))
 names-after session w es es' h other =
     names-found other es' ∙ ap names_taken (h other ∙ ap (λ b. cond b w (lookup (is_at (nat_cmp other)) es)) (same_test session other)) ∙ by (eqb other session)
     ∙ ap (cond (eqb other session) (names_taken w)) (sym (names-found other es))
@@ -58,21 +58,21 @@ names-after session w es es' h other =
 -- the names of one session become these of its former ones, and those of the others stay
 pub names-become : (session : ℕ) (w o : Option NameSet) (f : List (List ℕ) → List (List ℕ)) (es es' : Sets)
     → ((q : ℕ) → lookup (is_at (nat_cmp q)) es' ≡ cond (is_at (nat_cmp session) q) w (lookup (is_at (nat_cmp q)) es)) → o ≡ lookup (is_at (nat_cmp session)) es → names_taken w ≡ f (names_taken o)
-    → (other : ℕ) → names_in other (held_of es') ≡ cond (eqb other session) (f (names_in other (held_of es))) (names_in other (held_of es))
+    → (other : ℕ) → names_asked other (held_of es') ≡ cond (eqb other session) (f (names_asked other (held_of es))) (names_asked other (held_of es))
 names-become session w o f es es' h found is other = names-after session w es es' h other ∙ by (eqb other session) refl
   where
-    by : (b : Bool) → eqb other session ≡ b → cond b (names_taken w) (names_in other (held_of es)) ≡ cond b (f (names_in other (held_of es))) (names_in other (held_of es))
-    by true same = is ∙ ap f (ap names_taken found ∙ sym (names-found session es)) ∙ ap (λ s. f (names_in s (held_of es))) (sym (eqb-true other session same))
+    by : (b : Bool) → eqb other session ≡ b → cond b (names_taken w) (names_asked other (held_of es)) ≡ cond b (f (names_asked other (held_of es))) (names_asked other (held_of es))
+    by true same = is ∙ ap f (ap names_taken found ∙ sym (names-found session es)) ∙ ap (λ s. f (names_asked s (held_of es))) (sym (eqb-true other session same))
     by false same = refl
 
 -- if a session has no set, there is nothing to take out
 pub names-none : (session : ℕ) (f : List (List ℕ) → List (List ℕ)) (es : Sets) → None ≡ lookup (is_at (nat_cmp session)) es → f [] ≡ []
-    → (other : ℕ) → names_in other (held_of es) ≡ cond (eqb other session) (f (names_in other (held_of es))) (names_in other (held_of es))
+    → (other : ℕ) → names_asked other (held_of es) ≡ cond (eqb other session) (f (names_asked other (held_of es))) (names_asked other (held_of es))
 names-none session f es none is other = by (eqb other session) refl
   where
-    by : (b : Bool) → eqb other session ≡ b → names_in other (held_of es) ≡ cond b (f (names_in other (held_of es))) (names_in other (held_of es))
+    by : (b : Bool) → eqb other session ≡ b → names_asked other (held_of es) ≡ cond b (f (names_asked other (held_of es))) (names_asked other (held_of es))
     by true same =
-        let nothing = ap (λ s. names_in s (held_of es)) (eqb-true other session same) ∙ names-found session es ∙ ap names_taken (sym none) in
+        let nothing = ap (λ s. names_asked s (held_of es)) (eqb-true other session same) ∙ names-found session es ∙ ap names_taken (sym none) in
         nothing ∙ sym is ∙ ap f (sym nothing)
     by false same = refl
 

@@ -15,7 +15,7 @@ use Rattle.ov_specs.proofs.laws.LockQueues.{DoQueuesAscend, with_queue-ascends, 
 use Rattle.ov_specs.proofs.laws.Names.{same_name-itself}
 use Rattle.ov_specs.proofs.laws.Truths.{or_truth}
 use Rattle.ov_locks.specs.Freeing.{owner_notified, owners_notified}
-use Rattle.ov_locks.specs.Held.{HeldNames, names_in}
+use Rattle.ov_locks.specs.Held.{HeldNames, names_asked}
 use Rattle.ov_locks.specs.Refusing.{refusal_for, request_refusal, RefusesFor}
 use Rattle.ov_locks.specs.declared.fault.LockFault.{LockFault}
 use Rattle.ov_locks.specs.declared.fault.LockFault.TheVariants.{AlreadyRequested, Memory}
@@ -26,26 +26,26 @@ TableValue = Queues × List (ℕ × List ℕ)
 
 -- the names are those of the queues
 abbrev pub AreNamesOf : HeldNames → Queues → Type 0
-AreNamesOf held queues = (session : ℕ) → names_in session held ≡ names_of session queues
+AreNamesOf held queues = (session : ℕ) → names_asked session held ≡ names_of session queues
 
 pub none-ascend : DoQueuesAscend []
 unfolding IsStrictlySortedBy
 none-ascend = tt
 
--- the session asks for the lock as well, or no longer does
+-- the session asks for the lock as well, or stops asking for it
 abbrev pub AddsName : List ℕ → ℕ → HeldNames → HeldNames → Type 0
-AddsName name session held new = (other : ℕ) → names_in other new ≡ cond (eqb other session) (insert_key name_cmp (names_in other held) name) (names_in other held)
+AddsName name session held new = (other : ℕ) → names_asked other new ≡ cond (eqb other session) (insert_key name_cmp (names_asked other held) name) (names_asked other held)
 
 abbrev pub RemovesName : List ℕ → ℕ → HeldNames → HeldNames → Type 0
-RemovesName name session held new = (other : ℕ) → names_in other new ≡ cond (eqb other session) (remove_key (is_at (name_cmp name)) (names_in other held)) (names_in other held)
+RemovesName name session held new = (other : ℕ) → names_asked other new ≡ cond (eqb other session) (remove_key (is_at (name_cmp name)) (names_asked other held)) (names_asked other held)
 
 module _ (name : List ℕ) (session : ℕ) (queues : Queues) (held : HeldNames) (ascend : DoQueuesAscend queues) (are : AreNamesOf held queues) where
   -- ---- whether it is refused
 
-  pub has-is : list_any (is_at (name_cmp name)) (names_in session held) ≡ has_requested session name queues
+  pub has-is : list_any (is_at (name_cmp name)) (names_asked session held) ≡ has_requested session name queues
   has-is = ap (list_any (is_at (name_cmp name))) (are session) ∙ sym (requested-names session name queues ascend)
 
-  pub refusal-is : refusal_for (list_any (is_at (name_cmp name)) (names_in session held)) (length (names_in session held)) ≡ request_refusal name session queues
+  pub refusal-is : refusal_for (list_any (is_at (name_cmp name)) (names_asked session held)) (length (names_asked session held)) ≡ request_refusal name session queues
   refusal-is i = refusal_for (has-is i) (length (are session i))
 
   -- ---- what the table is after a call
@@ -72,7 +72,7 @@ module _ (name : List ℕ) (session : ℕ) (queues : Queues) (held : HeldNames) 
   )
 
   -- what was noted is undone
-  pub same-table : (mid new : HeldNames) (after : Queues) → list_any (is_at (name_cmp name)) (names_in session held) ≡ false → AddsName name session held mid → RemovesName name session mid new → after ≡ queues
+  pub same-table : (mid new : HeldNames) (after : Queues) → list_any (is_at (name_cmp name)) (names_asked session held) ≡ false → AddsName name session held mid → RemovesName name session mid new → after ≡ queues
       → DoQueuesAscend after × AreNamesOf new after
   same-table mid new after absent adds removes is = (
     subst DoQueuesAscend (sym is) ascend,
@@ -81,13 +81,13 @@ module _ (name : List ℕ) (session : ℕ) (queues : Queues) (held : HeldNames) 
   )
     where
       by : (other : ℕ) (b : Bool) → eqb other session ≡ b
-          → cond b (remove_key (is_at (name_cmp name)) (cond b (insert_key name_cmp (names_in other held) name) (names_in other held))) (cond b (insert_key name_cmp (names_in other held) name) (names_in other held)) ≡ names_in other held
-      by other true same = remove-insert name (names_in other held) (ap (λ s. list_any (is_at (name_cmp name)) (names_in s held)) (eqb-true other session same) ∙ absent)
+          → cond b (remove_key (is_at (name_cmp name)) (cond b (insert_key name_cmp (names_asked other held) name) (names_asked other held))) (cond b (insert_key name_cmp (names_asked other held) name) (names_asked other held)) ≡ names_asked other held
+      by other true same = remove-insert name (names_asked other held) (ap (λ s. list_any (is_at (name_cmp name)) (names_asked s held)) (eqb-true other session same) ∙ absent)
       by other false same = refl
 
 -- the session has left
 pub leaves-table : (session : ℕ) (queues : Queues) (held new : HeldNames) (after : Queues) → DoQueuesAscend queues → AreNamesOf held queues
-    → ((other : ℕ) → names_in other new ≡ cond (eqb other session) [] (names_in other held)) → after ≡ leave session queues → DoQueuesAscend after × AreNamesOf new after
+    → ((other : ℕ) → names_asked other new ≡ cond (eqb other session) [] (names_asked other held)) → after ≡ leave session queues → DoQueuesAscend after × AreNamesOf new after
 leaves-table session queues held new after ascend are gone is = (
   subst DoQueuesAscend (sym is) (leave-ascends session queues ascend),
   λ other. gone other ∙ ap (cond (eqb other session) []) (are other) ∙ sym (names-leave other session queues ascend) ∙ ap (names_of other) (sym is),
@@ -104,10 +104,10 @@ any-insert name (other ∷ names) = by (any-insert name names) (name_cmp name ot
     by rest Greater is = ap (λ b. is_at (name_cmp name) other || b) rest ∙ or_truth (is_at (name_cmp name) other)
 
 -- what was added is there
-pub added-is : (name : List ℕ) (session : ℕ) (held new : HeldNames) → AddsName name session held new → list_any (is_at (name_cmp name)) (names_in session new) ≡ true
+pub added-is : (name : List ℕ) (session : ℕ) (held new : HeldNames) → AddsName name session held new → list_any (is_at (name_cmp name)) (names_asked session new) ≡ true
 added-is name session held new adds =
-    ap (list_any (is_at (name_cmp name))) (adds session ∙ ap (λ b. cond b (insert_key name_cmp (names_in session held) name) (names_in session held)) (eq-eqb session session refl))
-    ∙ any-insert name (names_in session held)
+    ap (list_any (is_at (name_cmp name))) (adds session ∙ ap (λ b. cond b (insert_key name_cmp (names_asked session held) name) (names_asked session held)) (eq-eqb session session refl))
+    ∙ any-insert name (names_asked session held)
 
 -- ---- lock by lock
 

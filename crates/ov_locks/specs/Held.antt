@@ -11,12 +11,13 @@ use Rattle.std.specs.declared.alloc.Global.{Global}
 abbrev pub HeldNames : Type 0
 HeldNames = List (ℕ × List (List ℕ))
 
+-- the names of one session in the code
 abbrev pub NameSet : Type 0
 NameSet = BTreeSet (String Global)
 
--- those of one session
-abbrev pub names_in : ℕ → HeldNames → List (List ℕ)
-names_in session held = unwrap_or (lookup (is_at (nat_cmp session)) held) []
+-- the names that one session has asked for
+abbrev pub names_asked : ℕ → HeldNames → List (List ℕ)
+names_asked session held = unwrap_or (lookup (is_at (nat_cmp session)) held) []
 
 -- how many names there are of all sessions
 abbrev pub requests_in : HeldNames → ℕ

@@ -9,6 +9,7 @@ use Rattle.ov_locks.specs.declared.fault.LockFault.TheVariants.{AlreadyRequested
 abbrev pub refusal_for : Bool → ℕ → Option LockFault
 refusal_for has_requested requests = if has_requested then Some AlreadyRequested else (if nat_le lock_limit requests then Some Limit else None)
 
+-- what refuses a lock or a steal of this name to the session
 abbrev pub request_refusal : List ℕ → ℕ → Queues → Option LockFault
 request_refusal name session queues = refusal_for (has_requested session name queues) (requests_of session queues)
 

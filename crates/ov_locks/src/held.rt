@@ -5,7 +5,7 @@ ghost use Rattle.std.specs.BTreeSet.{insert_key};
 ghost use Rattle.std.specs.List.{list_any};
 ghost use Rattle.std.specs.Set.{remove_key};
 ghost use Rattle.ov_specs.specs.schema.SchemaTypes.{name_cmp};
-ghost use Rattle.ov_locks.specs.Held.{names_in, names_taken, requests_in};
+ghost use Rattle.ov_locks.specs.Held.{names_asked, names_taken, requests_in};
 
 use std::alloc::{AllocError, Global};
 use std::collections::{BTreeMap, BTreeSet};
@@ -37,7 +37,7 @@ impl Held {
 
     /// Whether the session has asked for the lock.
     pub fn has(&self, session: u64, name: &str) -> bool
-        ensures { result ≡ list_any (is_at (name_cmp name.now)) (names_in session self.now) }
+        ensures { result ≡ list_any (is_at (name_cmp name.now)) (names_asked session self.now) }
     {
         match self.of.get(&session) {
             Some(names) => names.contains(name),
@@ -47,7 +47,7 @@ impl Held {
 
     /// How many locks the session has asked for.
     pub fn count(&self, session: u64) -> usize
-        ensures { result ≡ length (names_in session self.now) }
+        ensures { result ≡ length (names_asked session self.now) }
     {
         match self.of.get(&session) {
             Some(names) => names.len(),
@@ -57,10 +57,10 @@ impl Held {
 
     /// Notes that the session asks for the lock.
     pub fn add(&mut self, alloc: Global, session: u64, name: &str) -> Result<(), AllocError>
-        requires { list_any (is_at (name_cmp name.now)) (names_in session self.old) ≡ false }
-        ensures names { OnOk result ((other : ℕ) → names_in other self.new
-            ≡ (if other == session then insert_key name_cmp (names_in other self.old) name.now else
-            names_in other self.old)) }
+        requires { list_any (is_at (name_cmp name.now)) (names_asked session self.old) ≡ false }
+        ensures names { OnOk result ((other : ℕ) → names_asked other self.new
+            ≡ (if other == session then insert_key name_cmp (names_asked other self.old) name.now
+            else names_asked other self.old)) }
         ensures count { OnOk result (requests_in self.new ≡ requests_in self.old + 1) }
         ensures err { OnErr result (self.new ≡ self.old) }
     {
@@ -77,12 +77,12 @@ impl Held {
         }
     }
 
-    /// Notes that the session no longer asks for the lock.
+    /// Notes that the session stops asking for the lock.
     pub fn remove(&mut self, session: u64, name: &str)
-        ensures names { (other : ℕ) → names_in other self.new
+        ensures names { (other : ℕ) → names_asked other self.new
             ≡ (if other == session then remove_key (is_at (name_cmp name.now))
-            (names_in other self.old) else names_in other self.old) }
-        ensures count { list_any (is_at (name_cmp name.now)) (names_in session self.old) ≡ true
+            (names_asked other self.old) else names_asked other self.old) }
+        ensures count { list_any (is_at (name_cmp name.now)) (names_asked session self.old) ≡ true
             → requests_in self.new + 1 ≡ requests_in self.old }
     {
         if let Some(names) = self.of.get_mut(&session) {
@@ -92,10 +92,10 @@ impl Held {
 
     /// Takes out all names of the session.
     pub fn take(&mut self, session: u64) -> Option<BTreeSet<String>>
-        ensures names { names_taken result ≡ names_in session self.old }
-        ensures others { (other : ℕ) → names_in other self.new
-            ≡ (if other == session then [] else names_in other self.old) }
-        ensures count { requests_in self.new + length (names_in session self.old)
+        ensures names { names_taken result ≡ names_asked session self.old }
+        ensures others { (other : ℕ) → names_asked other self.new
+            ≡ (if other == session then [] else names_asked other self.old) }
+        ensures count { requests_in self.new + length (names_asked session self.old)
             ≡ requests_in self.old }
     {
         self.of.remove(&session)

@@ -11,7 +11,7 @@ ghost use Rattle.ov_specs.specs.locks.Queues.{stolen_notification, requests_of, 
 ghost use Rattle.ov_specs.specs.schema.SchemaTypes.{name_cmp};
 ghost use Rattle.ov_specs.specs.wire.Frame.{frame};
 ghost use Rattle.ov_locks.specs.Freeing.{owner_notified, owners_notified};
-ghost use Rattle.ov_locks.specs.Held.{names_in, names_of_set, requests_in};
+ghost use Rattle.ov_locks.specs.Held.{names_asked, names_of_set, requests_in};
 ghost use Rattle.ov_locks.specs.Refusing.{refusal_for, request_refusal, RefusesFor};
 
 use crate::fault::LockFault;
@@ -42,14 +42,14 @@ impl Model for LockTable {
     ghost use Rattle.ov_specs.specs.locks.Queues as locks;
     ghost use Rattle.ov_specs.specs.locks.Queues.{names_of};
     ghost use Rattle.ov_specs.proofs.laws.LockQueues.{DoQueuesAscend};
-    ghost use Rattle.ov_locks.specs.Held.{names_in, requests_in};
+    ghost use Rattle.ov_locks.specs.Held.{names_asked, requests_in};
 
     ghost Value = { locks.Queues × List (ℕ × List ℕ) };
 
     ghost view = { λ t. (t.queues, t.freed.0) };
 
     ghost invariant = { λ t. DoQueuesAscend t.queues
-        × ((session : ℕ) → names_in session t.held ≡ names_of session t.queues)
+        × ((session : ℕ) → names_asked session t.held ≡ names_of session t.queues)
         × (t.freed.1 ≡ requests_in t.held) };
 }
 
@@ -177,12 +177,12 @@ fn request(
     name: &str,
 ) -> Result<(), LockFault>
     ensures refused { RefusesFor
-        (refusal_for (list_any (is_at (name_cmp name.now)) (names_in session held.old))
-        (length (names_in session held.old)))
+        (refusal_for (list_any (is_at (name_cmp name.now)) (names_asked session held.old))
+        (length (names_asked session held.old)))
         result }
-    ensures names { OnOk result ((other : ℕ) → names_in other held.new
-        ≡ (if other == session then insert_key name_cmp (names_in other held.old) name.now else
-        names_in other held.old)) }
+    ensures names { OnOk result ((other : ℕ) → names_asked other held.new
+        ≡ (if other == session then insert_key name_cmp (names_asked other held.old) name.now else
+        names_asked other held.old)) }
     ensures places { OnOk result ((requests_in held.new ≡ requests_in held.old + 1)
         × (freed.new ≡ (freed.old.0, freed.old.1 + 1))) }
     ensures err { OnErr result ((held.new ≡ held.old) × (freed.new ≡ freed.old)) }
@@ -201,12 +201,12 @@ fn request(
     Ok(())
 }
 
-/// Notes that the session no longer asks for the lock.
+/// Notes that the session stops asking for the lock.
 fn take_back(held: &mut Held, freed: &mut Freed, session: u64, name: &str)
-    ensures names { (other : ℕ) → names_in other held.new
-        ≡ (if other == session then remove_key (is_at (name_cmp name.now)) (names_in other held.old)
-        else names_in other held.old) }
-    ensures requests { list_any (is_at (name_cmp name.now)) (names_in session held.old) ≡ true
+    ensures names { (other : ℕ) → names_asked other held.new
+        ≡ (if other == session then remove_key (is_at (name_cmp name.now))
+        (names_asked other held.old) else names_asked other held.old) }
+    ensures requests { list_any (is_at (name_cmp name.now)) (names_asked session held.old) ≡ true
         → requests_in held.new + 1 ≡ requests_in held.old }
     ensures places { freed.new ≡ (freed.old.0, freed.old.1 - 1) }
 {
@@ -232,7 +232,8 @@ fn leave_one(queues: &mut Queues, freed: &mut Freed, session: u64, name: &str)
     requires { 0 < freed.old.1 }
     ensures queues { queues.new ≡ unlock name.now session queues.old }
     ensures freed { freed.new.0
-        ≡ freed.old.0 ++ option_to_list (owner_notified name.now (next_owner name.now session queues.old)) }
+        ≡ freed.old.0
+        ++ option_to_list (owner_notified name.now (next_owner name.now session queues.old)) }
     ensures places { freed.new.1 + 1 ≡ freed.old.1 }
 {
     match queues.unlock(session, name) {

@@ -1,5 +1,5 @@
 -- What an operator makes of a list, step by step, and of all of it.
-use Rattle.std.proofs.Common.{◌≡◌, ℤ, suc, ◌+◌, ◌<◌, ◌≤◌, arith, List, [], ◌∷◌, ◌++◌, map, length, true, false, cond, not, ◌&&◌, ◌||◌, Some, Result, Ok, Err, refl, sym, ap, ◌∙◌, append_assoc}
+use Rattle.std.proofs.Common.{◌≡◌, ℤ, suc, ◌+◌, ◌<◌, ◌≤◌, arith, List, [], ◌∷◌, map, length, true, false, cond, not, ◌&&◌, ◌||◌, Some, Result, Ok, Err, refl, sym, ap, ◌∙◌}
 use Rattle.std.specs.Prelude.{is_some, if◌then◌else◌}
 use Rattle.std.specs.List.{list_any, list_all}
 use Rattle.std.specs.FinMap.{keys, len, contains_key, get-from_entries, len-empty, len-insert}
@@ -9,23 +9,15 @@ use Rattle.ov_specs.specs.operations.Mutators.{Operator, MutateError, Domain, Ra
 use Rattle.ov_specs.specs.schema.SchemaTypes.{ColumnType}
 use Rattle.ov_specs.specs.values.Value.{Atom, atom_cmp, Integers, is_atom_of, marked, Datum, Atoms, Pairs, atoms_in, set_of}
 use Rattle.ov_specs.proofs.laws.Order.{atom_cmp_total}
-use Rattle.ov_mutate.specs.Computing.{before, each_computed, distinct, and_distinct, set_computed}
+use Rattle.ov_specs.specs.values.Results.{result_and_then}
+use Rattle.ov_specs.proofs.laws.Results.{first_of_all}
+use Rattle.ov_mutate.specs.declared.fault.MutateFault.{MutateFault}
+use Rattle.ov_mutate.specs.declared.fault.MutateFault.TheVariants as made
+use Rattle.ov_mutate.specs.Faults.{IsMutated}
+use Rattle.ov_mutate.specs.Computing.{each_computed, distinct, set_computed}
 use Rattle.ov_mutate.proofs.LeftLemmas.{or-left}
 use Rattle.ov_specs.proofs.laws.ReadingBack.{keys-marked}
 use Rattle.ov_specs.proofs.laws.Truths.{right_fails}
-
--- what is made in all, where `done` was made of the first
-abbrev pub after : List Atom → Result (List Atom) MutateError → Result (List Atom) MutateError
-after done (Err fault) = Err fault
-after done (Ok rest) = Ok (done ++ rest)
-
-pub after-before : (done : List Atom) (a : Atom) (rest : Result (List Atom) MutateError) → after done (before (Ok a) rest) ≡ after (done ++ a ∷ []) rest
-after-before done a (Err fault) = refl
-after-before done a (Ok rest) = ap Ok (sym (append_assoc done (a ∷ []) rest))
-
-pub after-nothing : (r : Result (List Atom) MutateError) → r ≡ after [] r
-after-nothing (Err fault) = refl
-after-nothing (Ok rest) = refl
 
 -- ---- two equal atoms
 
@@ -70,10 +62,10 @@ len-equal_two (x ∷ xs) h =
 abbrev in_range : List Atom → Result (List Atom) MutateError
 in_range atoms = if list_all (is_atom_of Integers) atoms then Ok atoms else Err Range
 
-before-in_range : (a : Atom) (atoms : List Atom) → before (if is_atom_of Integers a then Ok a else Err Range) (in_range atoms) ≡ in_range (a ∷ atoms)
-before-in_range a atoms =
-    elim (is_atom_of Integers a) as (λ b. before (if b then Ok a else Err Range) (in_range atoms) ≡ (if b && list_all (is_atom_of Integers) atoms then Ok (a ∷ atoms) else Err Range)) [
-      | true ↦ elim (list_all (is_atom_of Integers) atoms) as (λ b. before (Ok a) (if b then Ok atoms else Err Range) ≡ (if b then Ok (a ∷ atoms) else Err Range)) [ true ↦ refl | false ↦ refl ]
+first_of_all-in_range : (a : Atom) (atoms : List Atom) → first_of_all (if is_atom_of Integers a then Ok a else Err Range) (in_range atoms) ≡ in_range (a ∷ atoms)
+first_of_all-in_range a atoms =
+    elim (is_atom_of Integers a) as (λ b. first_of_all (if b then Ok a else Err Range) (in_range atoms) ≡ (if b && list_all (is_atom_of Integers) atoms then Ok (a ∷ atoms) else Err Range)) [
+      | true ↦ elim (list_all (is_atom_of Integers) atoms) as (λ b. first_of_all (Ok a) (if b then Ok atoms else Err Range) ≡ (if b then Ok (a ∷ atoms) else Err Range)) [ true ↦ refl | false ↦ refl ]
       | false ↦ refl
     ]
 
@@ -81,22 +73,30 @@ module _ (t : ColumnType) (operator : Operator) (by : ℤ) where
   each_computed-in_range : divides_by_zero operator by ≡ false → (atoms : List Atom) → each_computed operator by atoms ≡ in_range (map (computed_atom operator by) atoms)
   each_computed-in_range h [] = refl
   each_computed-in_range h (a ∷ atoms) =
-      (λ i. before (if h i then Err Domain else (if is_atom_of Integers (computed_atom operator by a) then Ok (computed_atom operator by a) else Err Range)) (each_computed-in_range h atoms i))
-      ∙ before-in_range (computed_atom operator by a) (map (computed_atom operator by) atoms)
+      (λ i. first_of_all (if h i then Err Domain else (if is_atom_of Integers (computed_atom operator by a) then Ok (computed_atom operator by a) else Err Range)) (each_computed-in_range h atoms i))
+      ∙ first_of_all-in_range (computed_atom operator by a) (map (computed_atom operator by) atoms)
 
-  and_distinct-in_range : (results : List Atom) → and_distinct t (in_range results) ≡ of_results t results
-  and_distinct-in_range results =
-      elim (list_all (is_atom_of Integers) results) as (λ b. and_distinct t (if b then Ok results else Err Range)
+  distinct-in_range : (results : List Atom) → result_and_then (distinct t) (in_range results) ≡ of_results t results
+  distinct-in_range results =
+      elim (list_all (is_atom_of Integers) results) as (λ b. result_and_then (distinct t) (if b then Ok results else Err Range)
       ≡ (if not b then Err Range else (if has_equal_two results then Err Constraint else fitting t (Atoms (set_of results))))) [ true ↦ refl | false ↦ refl ]
 
   -- atom by atom, and then all of them
   pub all_computed-each : (atoms : List Atom) → all_computed t operator by atoms ≡ set_computed t operator by atoms
   all_computed-each [] = elim (divides_by_zero operator by) as (λ b. (if b && false then Err Domain else of_results t []) ≡ of_results t []) [ true ↦ refl | false ↦ refl ]
   all_computed-each (a ∷ atoms) =
-      elim (divides_by_zero operator by) as (λ b. divides_by_zero operator by ≡ b → (if b && true then Err Domain else of_results t (map (computed_atom operator by) (a ∷ atoms))) ≡ and_distinct t (each_computed operator by (a ∷ atoms))) [
-        | true ↦ λ h. sym (ap (λ b. and_distinct t (before (if b then Err Domain else (if is_atom_of Integers (computed_atom operator by a) then Ok (computed_atom operator by a) else Err Range)) (each_computed operator by atoms))) h)
-        | false ↦ λ h. sym (ap (and_distinct t) (each_computed-in_range h (a ∷ atoms)) ∙ and_distinct-in_range (map (computed_atom operator by) (a ∷ atoms)))
+      elim (divides_by_zero operator by) as (λ b. divides_by_zero operator by ≡ b → (if b && true then Err Domain else of_results t (map (computed_atom operator by) (a ∷ atoms))) ≡ result_and_then (distinct t) (each_computed operator by (a ∷ atoms))) [
+        | true ↦ λ h. sym (ap (λ b. result_and_then (distinct t) (first_of_all (if b then Err Domain else (if is_atom_of Integers (computed_atom operator by a) then Ok (computed_atom operator by a) else Err Range)) (each_computed operator by atoms))) h)
+        | false ↦ λ h. sym (ap (result_and_then (distinct t)) (each_computed-in_range h (a ∷ atoms)) ∙ distinct-in_range (map (computed_atom operator by) (a ∷ atoms)))
       ] refl
+
+-- a fault of the results is a fault of their set
+pub fault_of_results : {A : Type 0} (seen : A → List Atom) (t : ColumnType) (results : Result (List Atom) MutateError) (fault : MutateFault) → IsMutated seen results (Err fault)
+    → IsMutated {A = Datum} (λ d. d) (result_and_then (distinct t) results) (Err fault)
+fault_of_results seen t results made.Domain is = ap (result_and_then (distinct t)) is
+fault_of_results seen t results made.Range is = ap (result_and_then (distinct t)) is
+fault_of_results seen t results made.Constraint is = ap (result_and_then (distinct t)) is
+fault_of_results seen t results made.Memory is = tt
 
 -- what is computed of a set
 pub mutated-set : (t : ColumnType) (operator : Operator) (by : ℤ) (d : Datum) (atoms : List Atom) → Some atoms ≡ atoms_in d → mutated t (Compute operator by) d ≡ set_computed t operator by atoms

@@ -1,7 +1,8 @@
 -- What an operator makes of atoms, one after another.
-use Rattle.std.specs.Prelude.{ℤ, List, [], ◌∷◌, Option, Result, Ok, Err, if◌then◌else◌}
+use Rattle.std.specs.Prelude.{ℤ, List, Option, Result, Ok, Err, if◌then◌else◌}
 use Rattle.ov_specs.specs.operations.Mutators.{Operator, MutateError, Domain, Range, Constraint, computed, computed_atom, divides_by_zero, fitting, has_equal_two}
 use Rattle.ov_specs.specs.values.Reading.{in_64_bits}
+use Rattle.ov_specs.specs.values.Results.{each_or_fault, result_and_then}
 use Rattle.ov_specs.specs.schema.SchemaTypes.{ColumnType}
 use Rattle.ov_specs.specs.values.Value.{Integers, is_atom_of, Atom, Datum, Atoms, set_of}
 
@@ -15,26 +16,14 @@ atom_computed operator by a =
     if divides_by_zero operator by then Err Domain
     else (if is_atom_of Integers (computed_atom operator by a) then Ok (computed_atom operator by a) else Err Range)
 
--- one more at the front, or the first fault
-abbrev pub before : Result Atom MutateError → Result (List Atom) MutateError → Result (List Atom) MutateError
-before (Err fault) rest = Err fault
-before (Ok a) (Err fault) = Err fault
-before (Ok a) (Ok atoms) = Ok (a ∷ atoms)
-
--- all atoms, or the first fault
+-- all results, in order, or the first fault
 abbrev pub each_computed : Operator → ℤ → List Atom → Result (List Atom) MutateError
-each_computed operator by [] = Ok []
-each_computed operator by (a ∷ atoms) = before (atom_computed operator by a) (each_computed operator by atoms)
+each_computed operator by atoms = each_or_fault (atom_computed operator by) atoms
 
 -- the set of the atoms, if no two are equal and it fits
 abbrev pub distinct : ColumnType → List Atom → Result Datum MutateError
 distinct t atoms = if has_equal_two atoms then Err Constraint else fitting t (Atoms (set_of atoms))
 
--- the set of the results, or the first fault
-abbrev pub and_distinct : ColumnType → Result (List Atom) MutateError → Result Datum MutateError
-and_distinct t (Err fault) = Err fault
-and_distinct t (Ok atoms) = distinct t atoms
-
--- the set of what is made of each atom
+-- the set of all results, or the first fault
 abbrev pub set_computed : ColumnType → Operator → ℤ → List Atom → Result Datum MutateError
-set_computed t operator by atoms = and_distinct t (each_computed operator by atoms)
+set_computed t operator by atoms = result_and_then (distinct t) (each_computed operator by atoms)

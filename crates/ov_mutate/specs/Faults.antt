@@ -1,5 +1,5 @@
 -- What a call that reads or applies a mutation may return.
-use Rattle.std.specs.Prelude.{◌≡◌, ℤ, Option, Some, None, Result, Ok, Err}
+use Rattle.std.specs.Prelude.{◌≡◌, Result, Ok, Err}
 use Rattle.ov_specs.specs.operations.Mutators as mutators
 use Rattle.ov_atoms.specs.declared.fault.AtomFault.{AtomFault}
 use Rattle.ov_atoms.specs.declared.fault.AtomFault.TheVariants as atom
@@ -22,11 +22,6 @@ IsMutationRead seen read (Err UnknownColumn) = read ≡ Err mutators.NoColumn
 IsMutationRead seen read (Err Clash) = read ≡ Err mutators.Clash
 IsMutationRead seen read (Err NotMutable) = read ≡ Err mutators.NotMutable
 IsMutationRead seen read (Err Memory) = Unit {0}
-
--- the number that a mutation has, or its fault
-abbrev pub integer_or_syntax : Option ℤ → Result ℤ mutators.MutationFault
-integer_or_syntax None = Err mutators.BadMutation
-integer_or_syntax (Some n) = Ok n
 
 -- what is made, or the fault instead; "out of memory" may be returned in any case
 abbrev pub IsMutated : {A B : Type 0} → (A → B) → Result B mutators.MutateError → Result A MutateFault → Type 0

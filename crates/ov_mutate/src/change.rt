@@ -1,11 +1,12 @@
-ghost use Rattle.std.specs.Prelude.{◌≡◌, is_some, codes, option_map};
+ghost use Rattle.std.specs.Prelude.{◌≡◌, is_some, codes, ok_or, option_map};
 ghost use Rattle.serde_json.specs.View.{view};
-ghost use Rattle.ov_specs.specs.operations.Mutators.{integer_of, deleted_kinds, change_read};
+ghost use Rattle.ov_specs.specs.operations.Mutators.{BadMutation, integer_of, deleted_kinds};
+ghost use Rattle.ov_specs.specs.operations.Mutators.{change_read};
 ghost use Rattle.ov_specs.specs.values.Reading.{reads, as_two, tagged};
 ghost use Rattle.ov_specs.specs.values.Value as value;
 ghost use Rattle.ov_atoms.specs.Views.{kinds_view};
 ghost use Rattle.ov_mutate.specs.Views.{value_change_view, mutator_view};
-ghost use Rattle.ov_mutate.specs.Faults.{IsMutationRead, integer_or_syntax};
+ghost use Rattle.ov_mutate.specs.Faults.{IsMutationRead};
 
 use crate::fault::MutationFault;
 use crate::mutator::{Mutator, Operator};
@@ -27,8 +28,9 @@ pub(crate) enum ValueChange {
 /// Reads a number from a tree, as for a scalar.
 fn read_integer<N: Names>(alloc: Global, tree: &Value, names: &N) -> Result<i64, MutationFault>
     ensures { IsMutationRead (λ n. n)
-        (integer_or_syntax
-        (integer_of (reads (N.names names.now) (value.Single value.Integers) (view tree.now))))
+        (ok_or
+        (integer_of (reads (N.names names.now) (value.Single value.Integers) (view tree.now)))
+        BadMutation)
         result }
 {
     match read_datum(alloc, tree, Kinds::Single(AtomKind::Integer), names) {

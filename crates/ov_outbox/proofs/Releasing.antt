@@ -5,11 +5,11 @@ use Rattle.std.proofs.lemmas.List.{append-nil}
 use Rattle.std.proofs.lemmas.List.Sums.{sum_by-append, sum_by-cons, sum_by_push}
 use Rattle.ov_specs.specs.machine.Machine.{Sent}
 use Rattle.ov_specs.specs.machine.History.{frames_to}
-use Rattle.ov_outbox.specs.Frames.{WaitingFrames, waiting_for, places_for, PostsFrame, PostsSent, HasSameFrames, GivesUpPlace, TakesPlaces, posted, count_of, frames_for, PostsAll}
+use Rattle.ov_outbox.specs.Frames.{WaitingFrames, waiting_for, places_for, PostsFrame, PostsSent, HasSameFrames, GivesUpPlace, TakesPlaces, posted, count_for, frames_for, PostsAll}
 
 -- a place is kept for each of these
 abbrev pub HavePlaces : List (ℕ × List ℕ) → WaitingFrames → Type 0
-HavePlaces frames queues = (other : ℕ) → count_of other frames ≤ places_for other queues
+HavePlaces frames queues = (other : ℕ) → count_for other frames ≤ places_for other queues
 
 pub turned : (a b : ℕ) → eqb a b ≡ eqb b a
 turned a b = by (eqb b a) refl
@@ -40,19 +40,19 @@ frames_for-first other s f rest = ap (λ b. map (λ (p : ℕ × List ℕ). p.1) 
     by true = refl
     by false = refl
 
-pub count_of-first : (other s : ℕ) (f : List ℕ) (rest : List (ℕ × List ℕ)) → count_of other ((s, f) ∷ rest) ≡ cond (eqb other s) 1 0 + count_of other rest
-count_of-first other s f rest = sum_by-cons _ (s, f) rest ∙ ap (λ b. cond b 1 0 + count_of other rest) (turned s other)
+pub count_for-first : (other s : ℕ) (f : List ℕ) (rest : List (ℕ × List ℕ)) → count_for other ((s, f) ∷ rest) ≡ cond (eqb other s) 1 0 + count_for other rest
+count_for-first other s f rest = sum_by-cons _ (s, f) rest ∙ ap (λ b. cond b 1 0 + count_for other rest) (turned s other)
 
-pub count_of-last : (other s : ℕ) (f : List ℕ) (front : List (ℕ × List ℕ)) → count_of other (front ++ (s, f) ∷ []) ≡ count_of other front + cond (eqb other s) 1 0
-count_of-last other s f front = sum_by_push _ front (s, f) ∙ ap (λ b. count_of other front + cond b 1 0) (turned s other)
+pub count_for-last : (other s : ℕ) (f : List ℕ) (front : List (ℕ × List ℕ)) → count_for other (front ++ (s, f) ∷ []) ≡ count_for other front + cond (eqb other s) 1 0
+count_for-last other s f front = sum_by_push _ front (s, f) ∙ ap (λ b. count_for other front + cond b 1 0) (turned s other)
 
-pub count_of-append : (other : ℕ) (xs ys : List (ℕ × List ℕ)) → count_of other (xs ++ ys) ≡ count_of other xs + count_of other ys
-count_of-append other xs ys = sum_by-append _ xs ys
+pub count_for-append : (other : ℕ) (xs ys : List (ℕ × List ℕ)) → count_for other (xs ++ ys) ≡ count_for other xs + count_for other ys
+count_for-append other xs ys = sum_by-append _ xs ys
 
 -- a place is kept for the first
 pub first_place : (s : ℕ) (f : List ℕ) (rest : List (ℕ × List ℕ)) (queues : WaitingFrames) → HavePlaces ((s, f) ∷ rest) queues → 0 < places_for s queues
 first_place s f rest queues room =
-    let some = count_of-first s s f rest in
+    let some = count_for-first s s f rest in
     let one : cond {A = ℕ} (eqb s s) 1 0 ≡ 1 = ap (λ b. cond {A = ℕ} b 1 0) (eq-eqb s s refl) in
     let has = room s in
     omega arith
@@ -60,7 +60,7 @@ first_place s f rest queues room =
 -- and for the last
 pub last_place : (s : ℕ) (f : List ℕ) (front : List (ℕ × List ℕ)) (queues : WaitingFrames) → HavePlaces (front ++ (s, f) ∷ []) queues → 0 < places_for s queues
 last_place s f front queues room =
-    let some = count_of-last s s f front in
+    let some = count_for-last s s f front in
     let one : cond {A = ℕ} (eqb s s) 1 0 ≡ 1 = ap (λ b. cond {A = ℕ} b 1 0) (eq-eqb s s refl) in
     let has = room s in
     omega arith
@@ -70,7 +70,7 @@ last_place s f front queues room =
 -- Those of these frames are left: what waits now, followed by those, is what waited at first, followed by all.
 pub record IsReleasing (all left : List (ℕ × List ℕ)) (first now : WaitingFrames) : Type 0 where
   pub frames : (other : ℕ) → waiting_for other now ++ frames_for other left ≡ waiting_for other first ++ frames_for other all
-  pub places : (other : ℕ) → places_for other now + count_of other all ≡ places_for other first + count_of other left
+  pub places : (other : ℕ) → places_for other now + count_for other all ≡ places_for other first + count_for other left
   pub room : HavePlaces left now
 
 pub releasing-begins : (all : List (ℕ × List ℕ)) (first : WaitingFrames) → HavePlaces all first → IsReleasing all all first first
@@ -79,7 +79,7 @@ releasing-begins all first room = record { frames = λ other. refl; places = λ 
 -- Those of these frames are left to be given up.
 pub record IsGivingUp (all left : List (ℕ × List ℕ)) (first now : WaitingFrames) : Type 0 where
   pub frames : HasSameFrames first now
-  pub places : (other : ℕ) → places_for other now + count_of other all ≡ places_for other first + count_of other left
+  pub places : (other : ℕ) → places_for other now + count_for other all ≡ places_for other first + count_for other left
   pub room : HavePlaces left now
 
 pub giving_up-begins : (all : List (ℕ × List ℕ)) (first : WaitingFrames) → HavePlaces all first → IsGivingUp all all first first
@@ -87,10 +87,10 @@ giving_up-begins all first room = record { frames = λ other. refl; places = λ 
 
 module _ (all : List (ℕ × List ℕ)) (s : ℕ) (f : List ℕ) (rest : List (ℕ × List ℕ)) (first now then : WaitingFrames) where
   -- the places after one was taken
-  places_then : ((other : ℕ) → places_for other now + count_of other all ≡ places_for other first + count_of other ((s, f) ∷ rest)) → HavePlaces ((s, f) ∷ rest) now → GivesUpPlace s now then
-      → (other : ℕ) → places_for other then + count_of other all ≡ places_for other first + count_of other rest
+  places_then : ((other : ℕ) → places_for other now + count_for other all ≡ places_for other first + count_for other ((s, f) ∷ rest)) → HavePlaces ((s, f) ∷ rest) now → GivesUpPlace s now then
+      → (other : ℕ) → places_for other then + count_for other all ≡ places_for other first + count_for other rest
   places_then places room given other =
-      let head = count_of-first other s f rest in
+      let head = count_for-first other s f rest in
       let has = room other in
       let is = places other in
       let one = given other in
@@ -98,7 +98,7 @@ module _ (all : List (ℕ × List ℕ)) (s : ℕ) (f : List ℕ) (rest : List (�
 
   room_then : HavePlaces ((s, f) ∷ rest) now → GivesUpPlace s now then → HavePlaces rest then
   room_then room given other =
-      let head = count_of-first other s f rest in
+      let head = count_for-first other s f rest in
       let has = room other in
       let one = given other in
       omega arith
@@ -131,7 +131,7 @@ given_up-places all first now is other = let e = is.places other in omega arith
 -- the last was taken, and the others are left
 pub last-room : (s : ℕ) (f : List ℕ) (front : List (ℕ × List ℕ)) (first now : WaitingFrames) → HavePlaces (front ++ (s, f) ∷ []) first → GivesUpPlace s first now → HavePlaces front now
 last-room s f front first now room given other =
-    let last = count_of-last other s f front in
+    let last = count_for-last other s f front in
     let has = room other in
     let one = given other in
     omega arith
@@ -139,7 +139,7 @@ last-room s f front first now room given other =
 pub last-places : (s : ℕ) (f : List ℕ) (front : List (ℕ × List ℕ)) (first now then : WaitingFrames) → HavePlaces (front ++ (s, f) ∷ []) first → GivesUpPlace s first now → TakesPlaces front now then
     → TakesPlaces (front ++ (s, f) ∷ []) first then
 last-places s f front first now then room given taken other =
-    let last = count_of-last other s f front in
+    let last = count_for-last other s f front in
     let has = room other in
     let one = given other in
     let is = taken other in

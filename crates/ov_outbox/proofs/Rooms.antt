@@ -12,7 +12,7 @@ use Rattle.ov_locks.specs.Freeing as freeing
 use Rattle.ov_locks.specs.declared.fault.LockFault.{LockFault}
 use Rattle.ov_locks.specs.declared.fault.LockFault.TheVariants.{NotHeld}
 use Rattle.ov_outbox.specs.Asking.{sent_of_call}
-use Rattle.ov_outbox.specs.Frames.{WaitingFrames, places_for, count_of, posted, frames_for, waiting_for, HasSameFrames, PostsFrame, HasSamePlaces, KeepsPlace, KeepsTwoFor, GivesUpPlace, GivesUpPlaces, TakesPlaces, PostsAll, PostsSent}
+use Rattle.ov_outbox.specs.Frames.{WaitingFrames, places_for, count_for, posted, frames_for, waiting_for, HasSameFrames, PostsFrame, HasSamePlaces, KeepsPlace, KeepsTwoFor, GivesUpPlace, GivesUpPlaces, TakesPlaces, PostsAll, PostsSent}
 use Rattle.ov_outbox.specs.Waits.{waits_of, HasPlaces}
 use Rattle.ov_outbox.proofs.Releasing.{turned, HavePlaces, frames_for-first, posts_sent}
 use Rattle.ov_outbox.proofs.Waiting.{one_for, waits-lock, waits-steal, waits-unlock, waiter-unlocks, next-not_first, waits-leave, leaver-waits}
@@ -33,8 +33,8 @@ given_up-room s queues old new room none given other = by (eqb other s) refl
         omega arith
 
 -- how many of at most one frame are for the session
-count_of_notification : (other s : ℕ) (f : List ℕ) → count_of other ((s, f) ∷ []) ≡ cond (eqb s other) 1 0
-count_of_notification other s f = let p : ℕ × List ℕ = (s, f) in sum_by-cons (λ (q : ℕ × List ℕ). cond {A = ℕ} (eqb q.0 other) 1 0) p [] ∙ omega arith
+count_for_notification : (other s : ℕ) (f : List ℕ) → count_for other ((s, f) ∷ []) ≡ cond (eqb s other) 1 0
+count_for_notification other s f = let p : ℕ × List ℕ = (s, f) in sum_by-cons (λ (q : ℕ × List ℕ). cond {A = ℕ} (eqb q.0 other) 1 0) p [] ∙ omega arith
 
 module _ (name : List ℕ) (s : ℕ) (queues : Queues) (ascend : DoQueuesAscend queues) (first : WaitingFrames) (room : HasPlaces first queues) where
   -- ---- lock
@@ -64,13 +64,13 @@ module _ (name : List ℕ) (s : ℕ) (queues : Queues) (ascend : DoQueuesAscend 
       → TakesPlaces (option_to_list message) sent end → (f : List ℕ) → former ≡ owner name queues → message ≡ option_map (λ o. (o, f)) (owner name queues) → (after : Queues) → after ≡ steal name s queues → HasPlaces end after
   told-room former message kept both sent end keeps two takes tells f is message_is after after_is other =
       by (owner name queues) (ap (waits_of other) after_is ∙ waits-steal other name s queues ascend) (subst (λ (o : Option ℕ). KeepsTwoFor o kept both) is two)
-      (subst (λ (n : Option (ℕ × List ℕ)). places_for other end + count_of other (option_to_list n) ≡ places_for other sent) message_is (tells other))
+      (subst (λ (n : Option (ℕ × List ℕ)). places_for other end + count_for other (option_to_list n) ≡ places_for other sent) message_is (tells other))
     where
       by : (o : Option ℕ) → waits_of other after ≡ waits_of other queues + one_for other o → KeepsTwoFor o kept both
-          → places_for other end + count_of other (option_to_list (option_map (λ o. (o, f)) o)) ≡ places_for other sent → waits_of other after ≤ places_for other end
+          → places_for other end + count_for other (option_to_list (option_map (λ o. (o, f)) o)) ≡ places_for other sent → waits_of other after ≤ places_for other end
       by None all two last = omega (arith, room other, keeps other, two other, takes other)
       by (Some o) all two last =
-          let one = count_of_notification other o f in
+          let one = count_for_notification other o f in
           let same : cond {A = ℕ} (eqb other o) 1 0 ≡ cond (eqb o other) 1 0 = ap (λ b. cond {A = ℕ} b 1 0) (turned other o) in
           omega (arith, room other, keeps other, two other, takes other)
 
@@ -96,16 +96,16 @@ module _ (name : List ℕ) (s : ℕ) (queues : Queues) (ascend : DoQueuesAscend 
 
     module _ (notification : Option (ℕ × List ℕ)) (is : notification ≡ freeing.owner_notified name (next_owner name s queues)) (end : WaitingFrames) (tells : TakesPlaces (option_to_list notification) sent end)
         (after : Queues) (after_is : after ≡ unlock name s queues) where
-      count_is : (other : ℕ) (o : Option ℕ) → count_of other (option_to_list (freeing.owner_notified name o)) ≡ one_for other o
+      count_is : (other : ℕ) (o : Option ℕ) → count_for other (option_to_list (freeing.owner_notified name o)) ≡ one_for other o
       count_is other None = refl
-      count_is other (Some next) = count_of_notification other next (frame (locked_notification name))
+      count_is other (Some next) = count_for_notification other next (frame (locked_notification name))
 
       pub unlock-room : HasPlaces end after
       unlock-room other =
           let less : waits_of other after + one_for other (next_owner name s queues) ≤ waits_of other queues =
           subst (λ (q : Queues). waits_of other q + one_for other (next_owner name s queues) ≤ waits_of other queues) (sym after_is) (waits-unlock other name s queues ascend) in
           let last : places_for other end + one_for other (next_owner name s queues) ≡ places_for other sent =
-          ap (λ n. places_for other end + n) (sym (ap (λ n. count_of other (option_to_list n)) is ∙ count_is other (next_owner name s queues))) ∙ tells other in
+          ap (λ n. places_for other end + n) (sym (ap (λ n. count_for other (option_to_list n)) is ∙ count_is other (next_owner name s queues))) ∙ tells other in
           let has = room other in
           let same = reply_taken other in
           omega arith
@@ -126,7 +126,7 @@ module _ (name : List ℕ) (s : ℕ) (queues : Queues) (ascend : DoQueuesAscend 
               let none : one_for s (next_owner name s queues) ≡ 0 = ap (one_for s) (next-not_first s (queue_of name queues) (not_owner (owner name queues) apart)) in
               let nobody : one_for other (next_owner name s queues) ≡ 0 = ap (λ n. one_for n (next_owner name s queues)) (eqb-true other s e) ∙ none in
               let last : places_for other end + one_for other (next_owner name s queues) ≡ places_for other sent =
-              ap (λ n. places_for other end + n) (sym (ap (λ n. count_of other (option_to_list n)) is ∙ count_is other (next_owner name s queues))) ∙ tells other in
+              ap (λ n. places_for other end + n) (sym (ap (λ n. count_for other (option_to_list n)) is ∙ count_is other (next_owner name s queues))) ∙ tells other in
               let has = room other in
               let same = reply_taken other in
               omega arith
@@ -159,10 +159,10 @@ unlocks false next to result was is = absurd cc
 
 -- ---- leaving
 
-count_of-told : (other : ℕ) (freed : List (ℕ × List ℕ)) → count_of other (freeing.owners_notified freed) ≡ count_of other freed
-count_of-told other [] = refl
-count_of-told other (p ∷ freed) =
-    sum_by-cons _ (p.0, frame (locked_notification p.1)) (freeing.owners_notified freed) ∙ ap (λ n. cond (eqb p.0 other) 1 0 + n) (count_of-told other freed) ∙ sym (sum_by-cons _ p freed)
+count_for-told : (other : ℕ) (freed : List (ℕ × List ℕ)) → count_for other (freeing.owners_notified freed) ≡ count_for other freed
+count_for-told other [] = refl
+count_for-told other (p ∷ freed) =
+    sum_by-cons _ (p.0, frame (locked_notification p.1)) (freeing.owners_notified freed) ∙ ap (λ n. cond (eqb p.0 other) 1 0 + n) (count_for-told other freed) ∙ sym (sum_by-cons _ p freed)
 
 told_all-posted : (freed : List (ℕ × List ℕ)) → freeing.owners_notified freed ≡ map posted (told (map (λ f. (f.0, locked_notification f.1)) freed))
 told_all-posted [] = refl
@@ -173,7 +173,7 @@ module _ (s : ℕ) (queues : Queues) (ascend : DoQueuesAscend queues) (first : W
   freed-places other =
       let has = room other in
       let less = waits-leave other s queues ascend in
-      let count = count_of-told other (freed s queues) in
+      let count = count_for-told other (freed s queues) in
       omega arith
 
   module _ (mid : WaitingFrames) (takes : TakesPlaces (freeing.owners_notified (freed s queues)) first mid) (end : WaitingFrames) (gives : GivesUpPlaces s mid end) where
@@ -183,7 +183,7 @@ module _ (s : ℕ) (queues : Queues) (ascend : DoQueuesAscend queues) (first : W
         (λ other.
         let has = room other in
         let less = waits-leave other s queues ascend in
-        let count = count_of-told other (freed s queues) in
+        let count = count_for-told other (freed s queues) in
         let taken = takes other in
         omega arith)
         (leaver-waits s queues ascend) gives

@@ -14,7 +14,7 @@ use Rattle.ov_specs.specs.locks.Queues.{Queues, DoQueuesAscend, queue_of, first_
 use Rattle.ov_specs.specs.schema.SchemaTypes.{name_cmp}
 use Rattle.ov_specs.proofs.laws.LockQueues.{requested-names, unlock-ascends, names-leave}
 use Rattle.ov_specs.proofs.laws.Names.{name_cmp_total, same_name-itself}
-use Rattle.ov_outbox.specs.Frames.{count_of}
+use Rattle.ov_outbox.specs.Frames.{count_for}
 use Rattle.ov_outbox.specs.Waits.{waits_in, waits_of, IsOutOfQueues}
 use Rattle.ov_outbox.proofs.Releasing.{turned}
 
@@ -166,7 +166,7 @@ module _ (other : ℕ) (name : List ℕ) where
         let one = waits-without other s (queue_of name queues) in
         omega arith
 
--- one that waited, and no longer waits
+-- one that waited, and stops waiting
 pub waiter-unlocks : (name : List ℕ) (s : ℕ) (queues : Queues) → DoQueuesAscend queues → has_requested s name queues ≡ true → one_for s (owner name queues) ≡ 0
     → waits_of s (unlock name s queues) + 1 ≤ waits_of s queues
 waiter-unlocks name s queues ascend stands apart =
@@ -177,11 +177,11 @@ waiter-unlocks name s queues ascend stands apart =
 
 -- ---- leaving
 
-count-before : (other : ℕ) (o : Option ℕ) (name : List ℕ) (others : List (ℕ × List ℕ)) → count_of other (freed_before o name others) ≡ one_for other o + count_of other others
+count-before : (other : ℕ) (o : Option ℕ) (name : List ℕ) (others : List (ℕ × List ℕ)) → count_for other (freed_before o name others) ≡ one_for other o + count_for other others
 count-before other None name others = omega arith
 count-before other (Some s) name others = sum_by-cons _ (s, name) others
 
-waits-unlock_all : (other s : ℕ) (names : List (List ℕ)) (queues : Queues) → DoQueuesAscend queues → waits_of other (unlock_all s names queues) + count_of other (freed_all s names queues) ≤ waits_of other queues
+waits-unlock_all : (other s : ℕ) (names : List (List ℕ)) (queues : Queues) → DoQueuesAscend queues → waits_of other (unlock_all s names queues) + count_for other (freed_all s names queues) ≤ waits_of other queues
 waits-unlock_all other s [] queues ascend = omega arith
 waits-unlock_all other s (name ∷ names) queues ascend =
     let rest = waits-unlock_all other s names (unlock name s queues) (unlock-ascends name s queues ascend) in
@@ -189,7 +189,7 @@ waits-unlock_all other s (name ∷ names) queues ascend =
     let one = waits-unlock other name s queues ascend in
     omega arith
 
-pub waits-leave : (other s : ℕ) (queues : Queues) → DoQueuesAscend queues → waits_of other (leave s queues) + count_of other (freed s queues) ≤ waits_of other queues
+pub waits-leave : (other s : ℕ) (queues : Queues) → DoQueuesAscend queues → waits_of other (leave s queues) + count_for other (freed s queues) ≤ waits_of other queues
 waits-leave other s queues ascend = waits-unlock_all other s (names_of s queues) queues ascend
 
 -- ---- a session that has asked for no lock

@@ -93,12 +93,12 @@ abbrev pub posted : Sent → ℕ × List ℕ
 posted t = (t.session, frame t.tree)
 
 -- how many of these are for the session
-abbrev pub count_of : ℕ → List (ℕ × List ℕ) → ℕ
-count_of session frames = count_by (λ p. p.0 == session) frames
+abbrev pub count_for : ℕ → List (ℕ × List ℕ) → ℕ
+count_for session frames = count_by (λ p. p.0 == session) frames
 
--- the places of these are no longer kept
+-- each of these frames has taken one of the places of its session
 abbrev pub TakesPlaces : List (ℕ × List ℕ) → WaitingFrames → WaitingFrames → Type 0
-TakesPlaces frames old new = (other : ℕ) → places_for other new + count_of other frames ≡ places_for other old
+TakesPlaces frames old new = (other : ℕ) → places_for other new + count_for other frames ≡ places_for other old
 
 -- what of these is for the session, in order
 abbrev pub frames_for : ℕ → List (ℕ × List ℕ) → List (List ℕ)

@@ -7,7 +7,7 @@ ghost use Rattle.ov_specs.specs.locks.Queues.{owns, leave, told_of_leaving};
 ghost use Rattle.ov_specs.specs.machine.Machine.{told};
 ghost use Rattle.ov_specs.specs.wire.Frame.{frame, reply_tree};
 ghost use Rattle.ov_outbox.specs.Asking.{IsAsked, parts};
-ghost use Rattle.ov_outbox.specs.Frames.{places_for, count_of, PostsAll, PostsSent, HasSameFrames};
+ghost use Rattle.ov_outbox.specs.Frames.{places_for, count_for, PostsAll, PostsSent, HasSameFrames};
 ghost use Rattle.ov_outbox.specs.Frames.{HasSamePlaces, KeepsTwoFor, GivesUpTwoFor, TakesPlaces};
 ghost use Rattle.ov_outbox.specs.Waits.{HasPlaces};
 
@@ -161,7 +161,7 @@ pub(crate) fn leave(frames: &mut FrameQueues, locks: &mut LockTable, session: u6
 
 /// Notifies the sessions that have become owners, in places that are kept for that. Allocates nothing.
 fn tell_freed(frames: &mut FrameQueues, locks: &mut LockTable)
-    requires { (other : ℕ) → count_of other locks.old.1 ≤ places_for other frames.old }
+    requires { (other : ℕ) → count_for other locks.old.1 ≤ places_for other frames.old }
     ensures posts { PostsAll locks.old.1 frames.old frames.new }
     ensures places { TakesPlaces locks.old.1 frames.old frames.new }
     ensures queues { locks.new.0 ≡ locks.old.0 }

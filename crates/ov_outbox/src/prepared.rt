@@ -1,7 +1,7 @@
 ghost use Rattle.std.specs.Prelude.{◌≡◌, ◌≤◌, ◌+◌, ◌++◌, ℕ, List, [], ◌∷◌, map, MatchBool};
 ghost use Rattle.ov_specs.specs.machine.Machine.{Sent};
 ghost use Rattle.ov_outbox.specs.Frames.{places_for, HasSameFrames, PostsFrame, PostsSent, posted};
-ghost use Rattle.ov_outbox.specs.Frames.{count_of, TakesPlaces};
+ghost use Rattle.ov_outbox.specs.Frames.{count_for, TakesPlaces};
 
 use crate::frames::FrameQueues;
 use ov_base::Bytes;
@@ -46,8 +46,8 @@ impl Prepared {
             ≡ self.old) }
         ensures frames { HasSameFrames queues.old queues.new }
         ensures places { (other base : ℕ) → places_for other queues.old
-            ≡ base + count_of other self.old
-            → places_for other queues.new ≡ base + count_of other self.new }
+            ≡ base + count_for other self.old
+            → places_for other queues.new ≡ base + count_for other self.new }
     {
         if !queues.keep_place(alloc, session) {
             return false;
@@ -61,7 +61,7 @@ impl Prepared {
 
     /// Sends all frames, in order. Allocates nothing.
     pub fn release(self, queues: &mut FrameQueues)
-        requires { (other : ℕ) → count_of other self ≤ places_for other queues.old }
+        requires { (other : ℕ) → count_for other self ≤ places_for other queues.old }
         ensures posts { (sent : List Sent) → self ≡ map posted sent
             → PostsSent sent queues.old queues.new }
         ensures places { TakesPlaces self queues.old queues.new }
@@ -74,7 +74,7 @@ impl Prepared {
 
     /// Sends this frame in place of the last one, and gives up the others. Allocates nothing.
     pub fn release_instead(self, queues: &mut FrameQueues, frame: Bytes)
-        requires { (other : ℕ) → count_of other self ≤ places_for other queues.old }
+        requires { (other : ℕ) → count_for other self ≤ places_for other queues.old }
         ensures posts { (front : List (ℕ × List ℕ)) (session : ℕ) (former : List ℕ) → self
             ≡ front ++ (session, former) ∷ []
             → PostsFrame session frame queues.old queues.new }
@@ -90,7 +90,7 @@ impl Prepared {
 
     /// Sends none of the frames. Allocates nothing.
     pub fn give_up(self, queues: &mut FrameQueues)
-        requires { (other : ℕ) → count_of other self ≤ places_for other queues.old }
+        requires { (other : ℕ) → count_for other self ≤ places_for other queues.old }
         ensures frames { HasSameFrames queues.old queues.new }
         ensures places { TakesPlaces self queues.old queues.new }
     {
@@ -100,7 +100,7 @@ impl Prepared {
 
 /// Gives up the places of these frames.
 fn give_up_each(mut frames: VecDeque<(u64, Bytes)>, queues: &mut FrameQueues)
-    requires { (other : ℕ) → count_of other frames.items ≤ places_for other queues.old }
+    requires { (other : ℕ) → count_for other frames.items ≤ places_for other queues.old }
     ensures frames { HasSameFrames queues.old queues.new }
     ensures places { TakesPlaces frames.items queues.old queues.new }
 {

@@ -11,5 +11,5 @@ pub record PipesState (C : Type 0) : Type 0 where
   pub clock : C
 
 -- those of pipes
-abbrev pub state_of : {S W C : Type 0} → source.Ghosts S → sink.Ghosts W → Pipes S W C → PipesState C
-state_of source sink pipes = record { reader = source_of source pipes.reader; writer = sink_of sink pipes.writer; clock = pipes.clock }
+abbrev pub pipes_state : {S W C : Type 0} → source.Ghosts S → sink.Ghosts W → Pipes S W C → PipesState C
+pipes_state source sink pipes = record { reader = source_of source pipes.reader; writer = sink_of sink pipes.writer; clock = pipes.clock }

@@ -1,5 +1,5 @@
 ghost use Rattle.std.specs.Prelude.{◌≢◌};
-ghost use Rattle.ov_pipes.specs.Pipes.{state_of};
+ghost use Rattle.ov_pipes.specs.Pipes.{pipes_state};
 ghost use Rattle.ov_pipes.specs.Session.{EndsSession, server_over};
 
 use crate::pipes::Pipes;
@@ -21,8 +21,8 @@ pub fn serve_pipes<R: Wait, K: Keeper + Drop, D: Draws + Drop, S: Source, W: Sin
     pipes: &mut Pipes<S, W, C>,
 ) -> Ending
     ensures session { EndsSession C.tells
-        (server_over core.old (state_of S.Source W.Sink pipes.old)) result
-        (server_over core.new (state_of S.Source W.Sink pipes.new)) }
+        (server_over core.old (pipes_state S.Source W.Sink pipes.old)) result
+        (server_over core.new (pipes_state S.Source W.Sink pipes.new)) }
     ensures kind { (result ≢ Ending.Arguments) × (result ≢ Ending.Schema) }
     ensures honest { K.is_honest core.new.keeper → K.is_honest core.old.keeper }
 {

@@ -14,7 +14,7 @@ use Rattle.ov_specs.specs.schema.Schema.{is_some_and}
 use Rattle.ov_specs.specs.schema.SchemaTypes.{Schema}
 use Rattle.ov_specs.proofs.laws.LineKeys.{key_total, tied_same}
 use Rattle.ov_specs.proofs.laws.Truths.{left_holds, right_holds, zero_is, not_tied}
-use Rattle.ov_refs.specs.Holding.{KeySet, Holders, is_holder, with_holder, without, without_holder}
+use Rattle.ov_refs.specs.Holding.{KeySet, Holders, is_holder, with_holder, without_in_set, without_holder}
 use Rattle.ov_refs.specs.Linking.{Links, AreNone, AreLinksOf, with_target, with_targets, with_targets_of_rows}
 
 -- ---- keys
@@ -121,7 +121,7 @@ module _ (holders : Holders) (at by : LineKey) (to from : LineKey) where
       last set false none has false is =
           ap (λ c. is_holder (cond c (remove holders at) (insert holders at (remove set by))) to from) none ∙ less set false is ∙ beside is
 
-      turn : (o : Option KeySet) → get holders at ≡ o → (b : Bool) → eq_by_cmp line_cmp to at ≡ b → is_holder (without o at by holders) to from ≡ (is_holder holders to from && not (same_key at to && same_key from by))
+      turn : (o : Option KeySet) → get holders at ≡ o → (b : Bool) → eq_by_cmp line_cmp to at ≡ b → is_holder (without_in_set o at by holders) to from ≡ (is_holder holders to from && not (same_key at to && same_key from by))
       turn None has true is = here None has is ∙ sym (ap (λ b. b && not (same_key at to && same_key from by)) (here None has is))
       turn None has false is = beside is
       turn (Some set) has b is = last set (len (remove set by) == 0) refl has b is

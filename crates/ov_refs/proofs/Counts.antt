@@ -10,7 +10,8 @@ use Rattle.ov_specs.specs.integrity.References.{Target, refers_strongly, row_ref
 use Rattle.ov_specs.specs.rows.Database.{Row, Database, same_key}
 use Rattle.ov_specs.specs.rows.Lines.{LineKey, line_cmp}
 use Rattle.ov_specs.specs.schema.SchemaTypes.{Schema}
-use Rattle.ov_refs.specs.Counting.{in_64_bits, hits, hits_beside, strong_count}
+use Rattle.ov_refs.specs.Counting.{hits, hits_beside, strong_count}
+use Rattle.ov_specs.specs.values.Capped.{capped_to_64_bits}
 use Rattle.ov_refs.specs.Holding.{KeySet}
 use Rattle.ov_refs.specs.Linking.{Links, AreLinksOf}
 use Rattle.ov_refs.specs.Placed.{targets_at}
@@ -18,11 +19,11 @@ use Rattle.ov_refs.proofs.Collecting.{same_key-tied}
 use Rattle.ov_refs.proofs.RowKeys.{each_found, in_set, keys_of_rows}
 
 -- nothing more is counted
-pub in_64-last : (n : ℕ) → n ≤ 2 ^ 64 - 1 → n ≡ in_64_bits (n + 0)
+pub in_64-last : (n : ℕ) → n ≤ 2 ^ 64 - 1 → n ≡ capped_to_64_bits (n + 0)
 in_64-last n h = omega arith
 
 -- a count is cut off before or after another is added
-pub in_64-both : (n m : ℕ) → in_64_bits (in_64_bits n + in_64_bits m) ≡ in_64_bits (n + m)
+pub in_64-both : (n m : ℕ) → capped_to_64_bits (capped_to_64_bits n + capped_to_64_bits m) ≡ capped_to_64_bits (n + m)
 in_64-both n m = omega arith
 
 none_before : (n : ℕ) → 0 + n ≡ n

@@ -10,7 +10,7 @@ use Rattle.ov_specs.specs.rows.Lines.{LineKey, line_cmp}
 use Rattle.ov_specs.specs.schema.Schema.{is_some_and}
 use Rattle.ov_specs.proofs.laws.LineKeys.{key_exact, key_total, tied_same}
 use Rattle.ov_rows.proofs.Maps.{get-lookup, from_sorted-insert, from_sorted-nil}
-use Rattle.ov_refs.specs.Holding.{KeySet, Holders, holders_of, with_holder, fewer, with_fewer, without, without_holder}
+use Rattle.ov_refs.specs.Holding.{KeySet, Holders, holders_of, with_holder, fewer, with_fewer, without_in_set, without_holder}
 
 abbrev pub Entries : Type 0
 Entries = List (LineKey × KeySet)
@@ -84,7 +84,7 @@ module _ (to from : LineKey) (holders : Holders) where
   pub without-last : is_left_alone from (get holders to) ≡ true → remove (with_fewer to from holders) to ≡ without_holder to from holders
   without-last = by (get holders to)
     where
-      by : (o : Option KeySet) → is_left_alone from o ≡ true → remove (fewer o to from holders) to ≡ without o to from holders
+      by : (o : Option KeySet) → is_left_alone from o ≡ true → remove (fewer o to from holders) to ≡ without_in_set o to from holders
       by None last = cc
       by (Some set) last = remove-insert holders to (remove set from) ∙ ap (λ b. cond b (remove holders to) (insert holders to (remove set from))) (sym last)
 
@@ -92,6 +92,6 @@ module _ (to from : LineKey) (holders : Holders) where
   pub without-others : is_left_alone from (get holders to) ≡ false → with_fewer to from holders ≡ without_holder to from holders
   without-others = by (get holders to)
     where
-      by : (o : Option KeySet) → is_left_alone from o ≡ false → fewer o to from holders ≡ without o to from holders
+      by : (o : Option KeySet) → is_left_alone from o ≡ false → fewer o to from holders ≡ without_in_set o to from holders
       by None last = refl
       by (Some set) last = ap (λ b. cond b (remove holders to) (insert holders to (remove set from))) (sym last)

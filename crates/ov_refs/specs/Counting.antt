@@ -1,5 +1,5 @@
 -- How many strong references lead to a row.
-use Rattle.std.specs.Prelude.{ℕ, ◌^◌, ◌-◌, min, ◌&&◌, List, if◌then◌else◌, count_by}
+use Rattle.std.specs.Prelude.{ℕ, ◌&&◌, List, if◌then◌else◌, count_by}
 use Rattle.std.specs.FinMap.{get}
 use Rattle.std.specs.Ordering.{eq_by_cmp}
 use Rattle.ov_refs.specs.Placed.{targets_at}
@@ -8,10 +8,6 @@ use Rattle.ov_specs.specs.integrity.References.{Target, references}
 use Rattle.ov_specs.specs.rows.Database.{Database, same_key}
 use Rattle.ov_specs.specs.rows.Lines.{LineKey, line_cmp}
 use Rattle.ov_specs.specs.schema.SchemaTypes.{Schema}
-
--- a count in 64 bits: it stays at the greatest such number
-abbrev pub in_64_bits : ℕ → ℕ
-in_64_bits n = min n (2 ^ 64 - 1)
 
 -- how many strong references of different rows there are to the row of this key
 abbrev pub strong_count : Schema → Database → LineKey → ℕ

@@ -35,22 +35,23 @@ is_holder holders to from = is_some_and (λ set. contains_key set from) (get hol
 abbrev pub with_holder : LineKey → LineKey → Holders → Holders
 with_holder to from holders = insert holders to (insert (unwrap_or (get holders to) empty) from tt)
 
--- without `from` among the rows that refer to `to`
+-- without_in_set `from` among the rows that refer to `to`
 abbrev pub fewer : Option KeySet → LineKey → LineKey → Holders → Holders
 fewer None to from holders = holders
 fewer (Some set) to from holders = insert holders to (remove set from)
 
+-- without `from` among the rows that refer to `to`, which stays listed even if none is left
 abbrev pub with_fewer : LineKey → LineKey → Holders → Holders
 with_fewer to from holders = fewer (get holders to) to from holders
 
--- without `from`; if it was the last one, `to` is no longer listed
-abbrev pub without : Option KeySet → LineKey → LineKey → Holders → Holders
-without None to from holders = holders
-without (Some set) to from holders = if len (remove set from) == 0 then remove holders to else insert holders to (remove set from)
+-- without_in_set `from`; if it was the last one, `to` is no longer listed
+abbrev pub without_in_set : Option KeySet → LineKey → LineKey → Holders → Holders
+without_in_set None to from holders = holders
+without_in_set (Some set) to from holders = if len (remove set from) == 0 then remove holders to else insert holders to (remove set from)
 
--- without `from` among the rows that refer to `to`; if it was the last one, `to` is no longer listed
+-- without_in_set `from` among the rows that refer to `to`; if it was the last one, `to` is no longer listed
 abbrev pub without_holder : LineKey → LineKey → Holders → Holders
-without_holder to from holders = without (get holders to) to from holders
+without_holder to from holders = without_in_set (get holders to) to from holders
 
 -- how models store them
 abbrev pub key_set_code : Coded KeySet

@@ -3,7 +3,8 @@ ghost use Rattle.std.specs.FinMap.{get, keys};
 ghost use Rattle.std.specs.List.{flat_map, sum_by};
 ghost use Rattle.ov_atoms.specs.Views.{atom_view, atoms_view, pairs_view};
 ghost use Rattle.ov_specs.specs.integrity.References.{column_targets, datum_targets, targets_in};
-ghost use Rattle.ov_refs.specs.Counting.{hits, hits_at, hits_beside, in_64_bits};
+ghost use Rattle.ov_refs.specs.Counting.{hits, hits_at, hits_beside};
+ghost use Rattle.ov_specs.specs.values.Capped.{capped_to_64_bits};
 ghost use Rattle.ov_refs.specs.Targets.{all_targets, key_atoms, one_target, value_atoms};
 
 use crate::key_set::KeySet;
@@ -26,7 +27,7 @@ fn count_atom(refers: &Reference, atom: &Atom, to: &RowKey) -> u64
 /// How many strong references to the row these atoms are.
 fn count_atoms(refers: &Reference, atoms: &[Atom], to: &RowKey) -> u64
     ensures { result
-        ≡ in_64_bits (hits to.now (flat_map (one_target refers.now) (atoms_view atoms.now))) }
+        ≡ capped_to_64_bits (hits to.now (flat_map (one_target refers.now) (atoms_view atoms.now))) }
 {
     let mut count: u64 = 0;
     for atom in atoms {
@@ -38,7 +39,7 @@ fn count_atoms(refers: &Reference, atoms: &[Atom], to: &RowKey) -> u64
 /// How many strong references to the row the keys of pairs are.
 fn count_keys(refers: &Reference, pairs: &[(Atom, Atom)], to: &RowKey) -> u64
     ensures { result
-        ≡ in_64_bits
+        ≡ capped_to_64_bits
         (hits to.now
         (flat_map (one_target refers.now) (map (λ p. p.0) (pairs_view pairs.now)))) }
 {
@@ -52,7 +53,7 @@ fn count_keys(refers: &Reference, pairs: &[(Atom, Atom)], to: &RowKey) -> u64
 /// How many strong references to the row the values of pairs are.
 fn count_values(refers: &Reference, pairs: &[(Atom, Atom)], to: &RowKey) -> u64
     ensures { result
-        ≡ in_64_bits
+        ≡ capped_to_64_bits
         (hits to.now
         (flat_map (one_target refers.now) (map (λ p. p.1) (pairs_view pairs.now)))) }
 {
@@ -66,7 +67,7 @@ fn count_values(refers: &Reference, pairs: &[(Atom, Atom)], to: &RowKey) -> u64
 /// How many strong references to the row the atoms of a set, or the keys of a map, are.
 fn count_key_atoms(refers: &Reference, datum: &Datum, to: &RowKey) -> u64
     ensures { result
-        ≡ in_64_bits (hits to.now (flat_map (one_target refers.now) (key_atoms datum.now))) }
+        ≡ capped_to_64_bits (hits to.now (flat_map (one_target refers.now) (key_atoms datum.now))) }
 {
     if let Some(atoms) = datum.atoms() {
         return count_atoms(refers, atoms, to);
@@ -80,7 +81,7 @@ fn count_key_atoms(refers: &Reference, datum: &Datum, to: &RowKey) -> u64
 /// How many strong references to the row the values of a map are.
 fn count_value_atoms(refers: &Reference, datum: &Datum, to: &RowKey) -> u64
     ensures { result
-        ≡ in_64_bits (hits to.now (flat_map (one_target refers.now) (value_atoms datum.now))) }
+        ≡ capped_to_64_bits (hits to.now (flat_map (one_target refers.now) (value_atoms datum.now))) }
 {
     match datum.pairs() {
         Some(pairs) => count_values(refers, pairs, to),
@@ -91,7 +92,7 @@ fn count_value_atoms(refers: &Reference, datum: &Datum, to: &RowKey) -> u64
 /// How many strong references to the row the atoms of a set, or the keys of a map, are, if their type has a table to refer to.
 fn count_by_key(column: &Column, datum: &Datum, to: &RowKey) -> u64
     ensures { result
-        ≡ in_64_bits
+        ≡ capped_to_64_bits
         (hits to.now (all_targets column.now.type_of.key.refers (key_atoms datum.now))) }
 {
     match column.key_refers() {
@@ -103,7 +104,7 @@ fn count_by_key(column: &Column, datum: &Datum, to: &RowKey) -> u64
 /// How many strong references to the row the values of a map are, if their type has a table to refer to.
 fn count_by_value(column: &Column, datum: &Datum, to: &RowKey) -> u64
     ensures { result
-        ≡ in_64_bits
+        ≡ capped_to_64_bits
         (hits to.now
         (all_targets (option_and_then (λ b. b.refers) column.now.type_of.value)
         (value_atoms datum.now))) }
@@ -116,7 +117,7 @@ fn count_by_value(column: &Column, datum: &Datum, to: &RowKey) -> u64
 
 /// How many strong references to the row the value of a column has.
 fn count_datum(column: &Column, datum: &Datum, to: &RowKey) -> u64
-    ensures { result ≡ in_64_bits (hits to.now (datum_targets column.now.type_of datum.now)) }
+    ensures { result ≡ capped_to_64_bits (hits to.now (datum_targets column.now.type_of datum.now)) }
 {
     count_by_key(column, datum, to).saturating_add(count_by_value(column, datum, to))
 }
@@ -125,7 +126,7 @@ fn count_datum(column: &Column, datum: &Datum, to: &RowKey) -> u64
 /// a column.
 fn count_column(table: &Table, place: usize, name: &str, datum: &Datum, to: &RowKey) -> u64
     ensures { result
-        ≡ in_64_bits (hits to.now (column_targets (get table.now.columns name.now) datum.now)) }
+        ≡ capped_to_64_bits (hits to.now (column_targets (get table.now.columns name.now) datum.now)) }
 {
     match table.column_near(place, name) {
         Some(column) => count_datum(column, datum, to),
@@ -135,7 +136,7 @@ fn count_column(table: &Table, place: usize, name: &str, datum: &Datum, to: &Row
 
 /// How many strong references to the row the columns of a row of the table have.
 fn count_columns(table: &Table, columns: &Columns, to: &RowKey) -> u64
-    ensures { result ≡ in_64_bits (hits to.now (targets_in (Some table.now) columns.now)) }
+    ensures { result ≡ capped_to_64_bits (hits to.now (targets_in (Some table.now) columns.now)) }
 {
     let mut count: u64 = 0;
     let mut place: usize = 0;
@@ -149,7 +150,7 @@ fn count_columns(table: &Table, columns: &Columns, to: &RowKey) -> u64
 
 /// How many strong references to the row `to` the row `from` has, if it exists.
 fn count_row(schema: &Schema, rows: &Rows, from: &RowKey, to: &RowKey) -> u64
-    ensures { result ≡ in_64_bits (hits_at schema.now rows.now to.now from.now) }
+    ensures { result ≡ capped_to_64_bits (hits_at schema.now rows.now to.now from.now) }
 {
     let Some(row) = rows.row(from.table(), from.id()) else {
         return 0;
@@ -163,7 +164,7 @@ fn count_row(schema: &Schema, rows: &Rows, from: &RowKey, to: &RowKey) -> u64
 /// How many strong references to the row these rows have, without its own.
 pub(crate) fn count_holders(schema: &Schema, rows: &Rows, holders: &KeySet, to: &RowKey) -> u64
     ensures { result
-        ≡ in_64_bits (sum_by (hits_beside schema.now rows.now to.now) (keys holders.now)) }
+        ≡ capped_to_64_bits (sum_by (hits_beside schema.now rows.now to.now) (keys holders.now)) }
 {
     let mut count: u64 = 0;
     for from in holders.iter() {

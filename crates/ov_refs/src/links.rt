@@ -5,7 +5,8 @@ ghost use Rattle.ov_specs.specs.rows.Database.{Database};
 ghost use Rattle.ov_specs.specs.rows.Changed.{IsAfter};
 ghost use Rattle.ov_refs.specs.Linking.{AreLinksOf, AreNone, with_targets_of_rows, with_target, with_targets};
 ghost use Rattle.ov_refs.specs.Linking.{without_reference, without_references};
-ghost use Rattle.ov_refs.specs.Counting.{in_64_bits, strong_count};
+ghost use Rattle.ov_refs.specs.Counting.{strong_count};
+ghost use Rattle.ov_specs.specs.values.Capped.{capped_to_64_bits};
 ghost use Rattle.ov_refs.specs.Placed.{Adds, AreAlike, lost, refers, targets_at};
 ghost use Rattle.ov_rows.specs.Nested.{in_table};
 
@@ -69,7 +70,7 @@ impl Links {
     /// refType). The links are those of the rows. Reads only the rows that refer to it, and allocates nothing.
     pub fn strong_count(&self, schema: &Schema, rows: &Rows, to: &RowKey) -> u64
         requires { AreLinksOf schema.now rows.now self.now }
-        ensures { result ≡ in_64_bits (strong_count schema.now rows.now to.now) }
+        ensures { result ≡ capped_to_64_bits (strong_count schema.now rows.now to.now) }
     {
         match self.strong.of(to) {
             Some(holders) => count_holders(schema, rows, holders, to),

@@ -14,11 +14,11 @@ pub struct RowReference {
 
 impl Model for RowReference {
     ghost use Rattle.ov_specs.specs.integrity.References as references;
-    ghost use Rattle.ov_refs.specs.Targets.{reference_code};
+    ghost use Rattle.ov_refs.specs.Targets.{row_reference_code};
 
     ghost Value = { references.RowReference };
 
-    ghost coded = { reference_code };
+    ghost coded = { row_reference_code };
 
     ghost view = { λ r. record { from = r.from; to = r.to } };
 }

@@ -14,7 +14,7 @@ use Rattle.ov_specs.specs.monitors.Monitors.{added}
 use Rattle.ov_specs.specs.machine.Machine.{State, Outstanding, Work, Transact, answered, refused, is_request, is_waiting, waiting_of, most_waiting, call_of, transact_work, transact_call, transact_call_on, schema_call_on, lock_call, lock_call_on, monitors_of, monitor_work, monitor_call, monitor_call_on, monitor_cancel_call}
 use Rattle.ov_requests.specs.Waiting.{has_text}
 use Rattle.ov_requests.specs.Asked.{IsWork}
-use Rattle.ov_requests.specs.Params.{is_one, are_three}
+use Rattle.ov_requests.specs.Params.{is_one_item, are_three_items}
 use Rattle.ov_requests.specs.declared.answer.Work as code
 use Rattle.ov_requests.specs.declared.answer.Work.TheVariants as kinds
 
@@ -94,7 +94,7 @@ transact_elsewhere s session id name operations other = ap (λ (b : Bool). if b 
 
 -- ---- locks
 
-pub lock_params : (s : State) (session : ℕ) (id : Data) (call : LockCall) (params : Items) → is_one params ≡ false → lock_call s session id call params ≡ refused id (codes "syntax error")
+pub lock_params : (s : State) (session : ℕ) (id : Data) (call : LockCall) (params : Items) → is_one_item params ≡ false → lock_call s session id call params ≡ refused id (codes "syntax error")
 lock_params s session id call no_items few = refl
 lock_params s session id call (item d no_items) few = cc
 lock_params s session id call (item d (item e items)) few = refl
@@ -107,7 +107,7 @@ lock_unnamed s session id call name other = ap (λ (b : Bool). lock_call_on s se
 
 -- ---- monitors
 
-pub monitor_params : (s : State) (session : ℕ) (id : Data) (params : Items) → are_three params ≡ false → monitor_call s session id params ≡ refused id (codes "syntax error")
+pub monitor_params : (s : State) (session : ℕ) (id : Data) (params : Items) → are_three_items params ≡ false → monitor_call s session id params ≡ refused id (codes "syntax error")
 monitor_params s session id no_items few = refl
 monitor_params s session id (item d no_items) few = refl
 monitor_params s session id (item d (item e no_items)) few = refl
@@ -125,7 +125,7 @@ pub monitor_here : (s : State) (session : ℕ) (id : Data) (database : List ℕ)
 monitor_here s session id database name requests same =
     ap (λ (b : Bool). if b then monitor_work s id name (added s.schema (monitors_of session s) name requests) else refused id (codes "unknown database")) same
 
-pub cancel_params : (s : State) (session : ℕ) (id : Data) (params : Items) → is_one params ≡ false → monitor_cancel_call s session id params ≡ refused id (codes "syntax error")
+pub cancel_params : (s : State) (session : ℕ) (id : Data) (params : Items) → is_one_item params ≡ false → monitor_cancel_call s session id params ≡ refused id (codes "syntax error")
 cancel_params s session id no_items few = refl
 cancel_params s session id (item d no_items) few = cc
 cancel_params s session id (item d (item e items)) few = refl

@@ -14,7 +14,7 @@ ghost use Rattle.ov_rpc.specs.Incoming.{StandsFor, is_echo};
 ghost use Rattle.ov_rpc.specs.Message.{message_view, bad_kind_view};
 ghost use Rattle.ov_requests.specs.Asked.{IsWork};
 ghost use Rattle.ov_requests.specs.declared.answer.Work.TheVariants.{Answer};
-ghost use Rattle.ov_requests.specs.Params.{is_one, are_three};
+ghost use Rattle.ov_requests.specs.Params.{is_one_item, are_three_items};
 
 use crate::waiting::Waiting;
 use ov_atoms::is_id;
@@ -92,7 +92,7 @@ fn split_first(trees: Trees) -> Option<(Value, Trees)>
 
 /// The only tree, not copied; `None` if there is none or more than one.
 fn only_tree(trees: Trees) -> Option<Tree>
-    ensures { MatchOption result (is_one trees ≡ false) (λ tree. trees ≡ item tree no_items) }
+    ensures { MatchOption result (is_one_item trees ≡ false) (λ tree. trees ≡ item tree no_items) }
 {
     let Value::Array(mut items) = trees.into_tree().into_value() else {
         unreachable!()
@@ -105,7 +105,7 @@ fn only_tree(trees: Trees) -> Option<Tree>
 
 /// The three trees in order, not copied; `None` unless there are exactly three.
 fn three_trees(trees: Trees) -> Option<(Tree, Tree, Tree)>
-    ensures { MatchOption result (are_three trees ≡ false) (λ t. trees
+    ensures { MatchOption result (are_three_items trees ≡ false) (λ t. trees
         ≡ item t.0 (item t.1 (item t.2 no_items))) }
 {
     let Value::Array(mut items) = trees.into_tree().into_value() else {

@@ -1,5 +1,5 @@
 -- The text of an array in pieces.
-use Rattle.std.specs.Prelude.{◌≡◌, ℕ, List, [], ◌++◌, Bool, true, false}
+use Rattle.std.specs.Prelude.{ℕ, List, [], ◌++◌, Bool, true, false}
 use Rattle.serde_json.specs.Data.{Items, no_items, item}
 use Rattle.serde_json.specs.Written.{compact_text, comma_if}
 
@@ -9,10 +9,6 @@ comma_joined later no_items = []
 comma_joined later (item d items) = comma_if later ++ (compact_text d ++ comma_joined true items)
 
 -- there is no tree
-abbrev pub has_none : Items → Bool
-has_none no_items = true
-has_none (item d items) = false
-
--- a text that has grown: the former one, with nothing or something appended
-abbrev pub HasGrown : List ℕ → List ℕ → Type 0
-HasGrown before after = (more : List ℕ) × (after ≡ before ++ more)
+abbrev pub are_none : Items → Bool
+are_none no_items = true
+are_none (item d items) = false

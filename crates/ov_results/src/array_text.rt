@@ -2,7 +2,7 @@ ghost use Rattle.std.specs.Prelude.{◌≡◌, ◌↔◌, ◌++◌, ◌∷◌, [
 ghost use Rattle.serde_json.specs.Data.{array, no_items};
 ghost use Rattle.serde_json.specs.Written.{compact_text, comma_if};
 ghost use Rattle.ov_specs.specs.operations.Transaction.{and_item};
-ghost use Rattle.ov_results.specs.Texts.{HasGrown};
+ghost use Rattle.ov_specs.specs.wire.Beginning.{BeginsAs};
 
 use crate::item_trace::ItemTrace;
 use crate::op_result::OpResult;
@@ -21,7 +21,7 @@ pub struct ArrayText {
 impl Model for ArrayText {
     ghost use Rattle.std.specs.Prelude.{◌≡◌, false};
     ghost use Rattle.serde_json.specs.Data.{Items};
-    ghost use Rattle.ov_results.specs.Texts.{comma_joined, has_none};
+    ghost use Rattle.ov_results.specs.Texts.{comma_joined, are_none};
     ghost use Rattle.ov_specs.specs.codes.TreeCode.{items_code};
 
     ghost Value = { Items };
@@ -31,7 +31,7 @@ impl Model for ArrayText {
     ghost view = { λ a. a.trace.items };
 
     ghost invariant = { λ a. (a.text.items ≡ comma_joined false a.trace.items)
-        × (a.is_empty ≡ has_none a.trace.items) };
+        × (a.is_empty ≡ are_none a.trace.items) };
 }
 
 /// Appends one more item of an array: a comma, except before the first, and the item.
@@ -43,7 +43,7 @@ fn write_item(
 ) -> Result<(), AllocError>
     ensures ok { OnOk result (text.new.items
         ≡ text.old.items ++ (comma_if (not is_first) ++ compact_text item.now)) }
-    ensures grown { HasGrown text.old.items text.new.items }
+    ensures grown { BeginsAs text.old.items text.new.items }
 {
     if !is_first {
         text.push(b',')?;

@@ -3,7 +3,7 @@ ghost use Rattle.serde_json.specs.Data.{array};
 ghost use Rattle.serde_json.specs.Written.{compact_text};
 ghost use Rattle.ov_specs.specs.operations.Insert.{insert_result};
 ghost use Rattle.ov_specs.specs.rows.Database.{object_of};
-ghost use Rattle.ov_results.specs.Texts.{HasGrown};
+ghost use Rattle.ov_specs.specs.wire.Beginning.{BeginsAs};
 
 use crate::array_text::ArrayText;
 use ov_base::{Bytes, Tree};
@@ -60,7 +60,7 @@ impl From<Tree> for OpResult {
 fn write_rows(text: &mut Vec<u8>, rows: &ArrayText) -> Result<(), AllocError>
     ensures ok { OnOk result (text.new.items
         ≡ text.old.items ++ compact_text (object_of ((codes "rows", array rows.now) ∷ []))) }
-    ensures grown { HasGrown text.old.items text.new.items }
+    ensures grown { BeginsAs text.old.items text.new.items }
 {
     text.extend_from_slice(b"{\"rows\":[")?;
     text.extend_from_slice(rows.as_slice())?;
@@ -71,7 +71,7 @@ fn write_rows(text: &mut Vec<u8>, rows: &ArrayText) -> Result<(), AllocError>
 /// Writes the object whose one member `uuid` is this identifier. Its text needs no escapes.
 fn write_new_row(text: &mut Vec<u8>, id: Uuid) -> Result<(), AllocError>
     ensures ok { OnOk result (text.new.items ≡ text.old.items ++ compact_text (insert_result id)) }
-    ensures grown { HasGrown text.old.items text.new.items }
+    ensures grown { BeginsAs text.old.items text.new.items }
 {
     let mut buffer = Uuid::encode_buffer();
     let id: &str = id.hyphenated().encode_lower(&mut buffer);
@@ -84,7 +84,7 @@ fn write_new_row(text: &mut Vec<u8>, id: Uuid) -> Result<(), AllocError>
 /// Writes the tree.
 fn write_tree(alloc: Global, text: &mut Vec<u8>, tree: &Tree) -> Result<(), AllocError>
     ensures ok { OnOk result (text.new.items ≡ text.old.items ++ compact_text tree.now) }
-    ensures grown { HasGrown text.old.items text.new.items }
+    ensures grown { BeginsAs text.old.items text.new.items }
 {
     let bytes = tree.to_bytes(alloc)?;
     text.extend_from_slice(bytes.as_slice())
@@ -113,7 +113,7 @@ impl OpResult {
     /// an allocation fails, a part of it may have been written.
     pub(crate) fn write(&self, alloc: Global, text: &mut Vec<u8>) -> Result<(), AllocError>
         ensures ok { OnOk result (text.new.items ≡ text.old.items ++ compact_text self.now) }
-        ensures grown { HasGrown text.old.items text.new.items }
+        ensures grown { BeginsAs text.old.items text.new.items }
     {
         match &self.stored {
             Stored::Tree(tree) => write_tree(alloc, text, tree),

@@ -15,8 +15,8 @@ abbrev pub database_of : List (LineKey × Row) → Database
 database_of es = map.from_sorted {R = line_cmp} es
 
 -- the rows of a table, of an ascending list
-abbrev pub table_of : List (Uuid × Row) → TableRows
-table_of es = map.from_sorted {R = id_cmp} es
+abbrev pub table_rows_of : List (Uuid × Row) → TableRows
+table_rows_of es = map.from_sorted {R = id_cmp} es
 
 -- the rows of all tables, of an ascending list of them
 abbrev pub nested_of : List (String Global × TableRows) → Database
@@ -37,5 +37,5 @@ abbrev pub database_code : Coded Database
 database_code = map.code (coded× (coded_list coded_ℕ) (coded_list coded_ℕ)) row_code
 
 -- the rows of a table as a map
-abbrev pub table_code : Coded TableRows
-table_code = map.code (coded_list coded_ℕ) row_code
+abbrev pub table_rows_code : Coded TableRows
+table_rows_code = map.code (coded_list coded_ℕ) row_code

@@ -25,7 +25,7 @@ impl BodyReader {
         }
     }
 
-    /// The columns of exactly these names, shared and not copied, whose text is this body. `Syntax` and `Clash` say that
+    /// The columns of exactly this shape, shared and not copied, whose text is this body. `Syntax` and `Clash` say that
     /// none were found, not that there are none: the values are guessed, and their text is compared with the body. Columns
     /// are found for a body that `Columns::text` wrote of such columns.
     pub fn columns(

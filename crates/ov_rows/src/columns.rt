@@ -10,8 +10,8 @@ use ov_atoms::{Datum, RowShape};
 use std::alloc::{AllocError, Global};
 use std::marker::Model;
 
-/// The values of a row (RFC 7047, 5.1, `<row>`), in the order of their columns' names, which other rows share. Most values are
-/// their columns' defaults: for those of the first 64 columns the row has a bit each, and the default that all rows share.
+/// The values of a row (RFC 7047, 5.1, `<row>`), in the order of their columns' names, which other rows share. A
+/// row does not store defaults: a bit for each of its first 64 columns marks them, and they are read from the shape.
 pub struct Columns {
     shape: RowShape,
     /// The bits, the lowest for the first column.

@@ -8,7 +8,8 @@ use std::alloc::{AllocError, Global};
 /// How many columns of a row can have a mark: the bits of a `u64`.
 const MARKED: usize = 64;
 
-/// The marks of these values: a bit for each of the first 64, the lowest for the first, set if it is the default at its place.
+/// The marks of these values: a bit for each of the first 64, the lowest for the first, set if the value is the default at its
+/// place.
 pub(crate) fn marks_of(defaults: &[Datum], values: &[Datum]) -> u64
     ensures { spread result defaults.now (own_among result values.now) ≡ values.now }
 {
@@ -22,7 +23,7 @@ pub(crate) fn marks_of(defaults: &[Datum], values: &[Datum]) -> u64
     marks
 }
 
-/// The values that have no mark. Nothing is allocated if none has one.
+/// The values that have no mark. Nothing is allocated if no value has one.
 pub(crate) fn own_among(
     alloc: Global,
     marks: u64,
@@ -45,7 +46,8 @@ pub(crate) fn own_among(
     Ok(own)
 }
 
-/// The value of the first column, or none: a copy of its default if it has a mark, or the last of the row's own.
+/// The value of the first column, or none: a copy of its default if it has a mark, or the last of the row's own values, which are here in reverse
+/// order.
 fn take_first(
     alloc: Global,
     marks: u64,

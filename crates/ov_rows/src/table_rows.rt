@@ -19,13 +19,13 @@ impl Model for TableRows {
     ghost use Rattle.std.specs.FinMap.{is_sorted};
     ghost use Rattle.ov_rows.specs.Nested as nested;
     ghost use Rattle.ov_rows.specs.Nested.{id_cmp};
-    ghost use Rattle.ov_rows.specs.Resident.{table_code, table_of};
+    ghost use Rattle.ov_rows.specs.Resident.{table_rows_code, table_rows_of};
 
     ghost Value = { nested.TableRows };
 
-    ghost coded = { table_code };
+    ghost coded = { table_rows_code };
 
-    ghost view = { λ t. table_of t.rows.entries };
+    ghost view = { λ t. table_rows_of t.rows.entries };
 
     ghost invariant = { λ t. T (is_sorted id_cmp t.rows.entries) };
 }

@@ -4,7 +4,7 @@ use Rattle.std.proofs.lemmas.List.{append_assoc, length-append}
 use Rattle.std.proofs.Math.Seq.{take-append_seam}
 use Rattle.serde_json.specs.Data.{Data, null, string, Items, no_items, item, array}
 use Rattle.serde_json.specs.Written.{compact_text, comma_if}
-use Rattle.ov_results.specs.Texts.{comma_joined, has_none}
+use Rattle.ov_results.specs.Texts.{comma_joined, are_none}
 use Rattle.ov_results.proofs.Joining.{closed, with_more}
 use Rattle.ov_specs.specs.wire.Frame.{frame, reply_tree}
 use Rattle.ov_specs.specs.operations.Transaction.{and_item}
@@ -39,10 +39,10 @@ shorter xs =
 pub opened : (reply : List ℕ) (id : Data) (items : Items) → reply ≡ frame (reply_tree id (array items)) → take (length reply - 2) reply ≡ open_reply id items
 opened reply id items is = rw (is ∙ framed id items) (shorter (open_reply id items))
 
-separated : (first : Bool) (items : Items) → (IsTrue first ↔ (items ≡ no_items)) → (if first then [] else 44 ∷ []) ≡ comma_if (not (has_none items))
+separated : (first : Bool) (items : Items) → (IsTrue first ↔ (items ≡ no_items)) → (if first then [] else 44 ∷ []) ≡ comma_if (not (are_none items))
 separated true no_items same = refl
 separated false no_items same = absurd (true≢false (sym (same.1 refl)))
-separated true (item d items) same = absurd (true≢false (sym (ap has_none (same.0 refl))))
+separated true (item d items) same = absurd (true≢false (sym (ap are_none (same.0 refl))))
 separated false (item d items) same = refl
 
 -- the bytes of the reply with one more item
@@ -50,6 +50,6 @@ pub appended : (id : Data) (items : Items) (first : Bool) (more : Data) → (IsT
     → ((open_reply id items ++ (if first then [] else 44 ∷ [])) ++ compact_text more) ++ 93 ∷ 125 ∷ [] ≡ frame (reply_tree id (array (and_item items more)))
 appended id items first more same =
     let with_separator = ap (λ t. ((open_reply id items ++ t) ++ compact_text more) ++ 93 ∷ 125 ∷ []) (separated first items same) in
-    let together = append_assoc (open_reply id items) (comma_if (not (has_none items))) (compact_text more) ∙ after id (91 ∷ comma_joined false items) (comma_if (not (has_none items)) ++ compact_text more) in
+    let together = append_assoc (open_reply id items) (comma_if (not (are_none items))) (compact_text more) ∙ after id (91 ∷ comma_joined false items) (comma_if (not (are_none items)) ++ compact_text more) in
     let whole = together ∙ ap (λ t. from_result id (91 ∷ t)) (sym (with_more items more)) in
     with_separator ∙ (ap (λ t. t ++ 93 ∷ 125 ∷ []) whole ∙ sym (framed id (and_item items more)))

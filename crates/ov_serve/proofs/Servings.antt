@@ -82,7 +82,7 @@ ends_as n cause old new schema database history entries given frames said said' 
       reached = record { state = new.state; sent = f'.sent };
       legal = f'.legal;
       written = writes_of_all (is_written cause) frames (waiting_for n new.outbox) (frames_to n f'.sent) said said' (none_given_before n given frames (waiting_for n new.outbox) (frames_to n f'.sent) none (f'.issued n)) none_left written;
-      told = subst (IsCauseIn cause) (sym cause_is) told;
+      closed_for = subst (IsCauseIn cause) (sym cause_is) told;
     }
 
 module _ {K D C : Type 0} (tells : C → ℕ → C → Type 0) (n : ℕ) (old : ServerState K D C) where
@@ -137,7 +137,7 @@ module _ {K D C : Type 0} (tells : C → ℕ → C → Type 0) (n : ℕ) (old : 
           stream = fed_own done.streams n piece ∙ (ap (λ (bytes : List ℕ). bytes ++ piece) done.stream ∙ sym (bytes_of-more done.pieces p));
           ticks = made.passes;
           sizes = All-push (λ (q : Piece). length q.bytes ≤ most_piece_bytes) done.pieces p done.sizes short;
-          moments = told_more tells old.clock a.clock clock done.pieces p done.moments serves.told;
+          moments = told_more tells old.clock a.clock clock done.pieces p done.moments serves.reported;
           serial = done.serial;
           stands = made.stands;
         };

@@ -64,7 +64,7 @@ PassesIf false at old new = new ≡ old
 -- is still open and a transaction is due; unless that was refused, and then not all was done.
 pub record ServesPiece {K D C : Type 0} (tells : C → ℕ → C → Type 0) (piece : FedPiece) (old : Timed K D C) (is_all : Bool) (new : Timed K D C) (cutter : CutterState) : Type 0 where
   pub at : ℕ
-  pub told : tells old.clock at new.clock
+  pub reported : tells old.clock at new.clock
   pub mid : CoreState K D
   pub enters : EntersPiece at piece old.core mid cutter
   pub ticks : Bool

@@ -127,7 +127,7 @@ pub record EndsServing (before : State) (history : List machine.Entry) (n : ℕ)
   pub reached : machine.Stepped
   pub legal : run before history ≡ Some reached
   pub written : WritesOf (is_written cause) (out n reached.sent) said said'
-  pub told : IsCauseIn cause (closed_by before history n)
+  pub closed_for : IsCauseIn cause (closed_by before history n)
 
 -- What was done from the opening of the session to its closing. Time passes only if a waiting transaction is due.
 pub record Served {K D C : Type 0} (tells : C → ℕ → C → Type 0) (n : ℕ) (old : ServerState K D C) (cause : Cause) (new : ServerState K D C) : Type 0 where

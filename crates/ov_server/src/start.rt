@@ -3,7 +3,7 @@
 ghost use Rattle.std.specs.Prelude.{◌≡◌, ◌≢◌, ◌⊎◌, Err, IfOk, IfErr, IfNone, None, OnErr, map};
 ghost use Rattle.sqlite_wal.specs.Files.{image_at};
 ghost use Rattle.ov_words.specs.Words.{settings_of};
-ghost use Rattle.ov_pipes.specs.Pipes.{state_of};
+ghost use Rattle.ov_pipes.specs.Pipes.{pipes_state};
 ghost use Rattle.ov_listen.specs.Environment.{environment_of};
 ghost use Rattle.ov_server.specs.Running.{IsServiceAsked, RunsDatabase, place_of};
 ghost use Rattle.ov_server.specs.Schemas.{IsBuiltIn};
@@ -139,9 +139,9 @@ where
         (record {
           words = map A.text words.now;
           image = image_at T.Start;
-          pipes = state_of S.Source W.Sink pipes.old;
+          pipes = pipes_state S.Source W.Sink pipes.old;
         }) ended
-        (state_of S.Source W.Sink pipes.new)) }
+        (pipes_state S.Source W.Sink pipes.new)) }
     ensures untouched { OnErr result (pipes.new ≡ pipes.old) }
     ensures kinds { IfErr result (λ ending. (ending ≢ Ending.InputEnded)
         × (ending ≢ Ending.Streams)) }

@@ -3,3 +3,4 @@ pub mod History
 pub mod Streams
 pub mod Suiting
 pub mod Blocked
+pub mod Settling

@@ -3,3 +3,4 @@ pub mod Value
 pub mod Results
 pub mod Reading
 pub mod Writing
+pub mod Capped

@@ -12,7 +12,7 @@ use Rattle.sqlite_trees.proofs.ListLemmas.{all_weaker, all_both, all-filter}
 use Rattle.sqlite.specs.State.{State, Executes}
 use Rattle.ov_specs.specs.rows.Lines.{LineKey}
 use Rattle.ov_specs.specs.rows.Cells.{CellLine, CellLines, cell_lines}
-use Rattle.ov_tables.specs.Tables.{meta_table, head_table, cell_table, tree_of, row_trees, HasCellTables, cell_insert_text, cell_delete_text, cell_update_text, head_insert_text, head_delete_text, head_update_text}
+use Rattle.ov_tables.specs.Tables.{meta_table, head_table, cell_table, tree_number, row_trees, HasCellTables, cell_insert_text, cell_delete_text, cell_update_text, head_insert_text, head_delete_text, head_update_text}
 use Rattle.ov_tables.specs.Format.{IsMeta, IsKeyed, IsHead, IsCell, row_key, head_of, cell_of, stored_cells, rows_of_head, rows_of_cell}
 use Rattle.ov_tables.specs.Holding.{HoldsCells, IsNumbered, is_among}
 use Rattle.ov_sqlite.specs.Changing.{MakesRows, Becomes, IsEmptied, IsRowBegun, IsCellAdded, AreCellsAdded}
@@ -45,10 +45,10 @@ module _ (text : List ℕ) (old new : State) (stored : HoldsCells text old.now) 
   C = rows_of_cell old.now.trees
 
   abbrev h : ℕ
-  h = tree_of old.now.schema (codes "head")
+  h = tree_number old.now.schema (codes "head")
 
   abbrev c : ℕ
-  c = tree_of old.now.schema (codes "cell")
+  c = tree_number old.now.schema (codes "cell")
 
   has : HasCellTables old.now.schema
   has = stored.format.schema
@@ -58,9 +58,9 @@ module _ (text : List ℕ) (old new : State) (stored : HoldsCells text old.now) 
 
   -- `head` has other rows
   head_changed : (Became : CellLines → CellLines → Type 0) (rows : List Row) → Touches (head_table h) old.now new.now → rows_of_head new.now.trees ≡ rows → AllByRecursion IsHead rows → IsNumbered head_of rows
-      → AllByRecursion (HasHead rows) C → Became (stored_cells old.now.trees) (cell_lines (map head_of rows) (map cell_of C)) → MakesRows text Became old new
+      → AllByRecursion (HasHead rows) C → Became (stored_cells old.now.trees) (cell_lines (map head_of rows) (map cell_of C)) → MakesRows Became text old new
   head_changed Became rows only are heads numbered owned became =
-      let meta = rows_beside old.now new.now (head_table h) only (meta_table (tree_of old.now.schema (codes "meta"))) has.meta stored.sound (meta_not_head old.now.schema has) in
+      let meta = rows_beside old.now new.now (head_table h) only (meta_table (tree_number old.now.schema (codes "meta"))) has.meta stored.sound (meta_not_head old.now.schema has) in
       let cells = rows_beside old.now new.now (head_table h) only (cell_table c) has.cell stored.sound (cell_not_head old.now.schema has) in
       record {
         mode = mode;
@@ -93,9 +93,9 @@ module _ (text : List ℕ) (old new : State) (stored : HoldsCells text old.now) 
 
   -- `cell` has other rows
   cell_changed : (Became : CellLines → CellLines → Type 0) (rows : List Row) → Touches (cell_table c) old.now new.now → rows_of_cell new.now.trees ≡ rows → AllByRecursion IsCell rows → IsNumbered cell_of rows
-      → AllByRecursion (HasHead H) rows → Became (stored_cells old.now.trees) (cell_lines (map head_of H) (map cell_of rows)) → MakesRows text Became old new
+      → AllByRecursion (HasHead H) rows → Became (stored_cells old.now.trees) (cell_lines (map head_of H) (map cell_of rows)) → MakesRows Became text old new
   cell_changed Became rows only are cells numbered owned became =
-      let meta = rows_beside old.now new.now (cell_table c) only (meta_table (tree_of old.now.schema (codes "meta"))) has.meta stored.sound (meta_not_cell old.now.schema has) in
+      let meta = rows_beside old.now new.now (cell_table c) only (meta_table (tree_number old.now.schema (codes "meta"))) has.meta stored.sound (meta_not_cell old.now.schema has) in
       let heads = rows_beside old.now new.now (cell_table c) only (head_table h) has.head stored.sound (head_not_cell old.now.schema has) in
       record {
         mode = mode;
@@ -120,14 +120,14 @@ module _ (text : List ℕ) (old new : State) (stored : HoldsCells text old.now) 
       }
 
   module _ (k : LineKey) (count : ℕ) where
-    pub cells_removed : Executes cell_delete_text (Text k.0 ∷ Blob k.1 ∷ []) old new (Ok count) → MakesRows text (IsEmptied k) old new
+    pub cells_removed : Executes cell_delete_text (Text k.0 ∷ Blob k.1 ∷ []) old new (Ok count) → MakesRows (IsEmptied k) text old new
     cells_removed ran =
         let d = deletes old new (cell_table c) cell_delete_text key_terms (Text k.0 ∷ Blob k.1 ∷ []) cell_delete_parsed has.cell stored.sound (λ at it. cell_delete_is old.now.schema at c it) count ran in
         let keyed = all_weaker _ _ (λ r (is : IsCell r). is.keyed) C stored.format.cells in
         let left = d.left ∙ left_keyed k C d.rows keyed (numbered_part cell_of (λ c. c.key) C stored.cells_numbered) d.same in
         cell_changed (IsEmptied k) (others k C) d.only left (all-filter _ _ C stored.format.cells) (filter_numbered cell_of _ C stored.cells_numbered) (all-filter _ _ C heads_are) (emptied k H C)
 
-    pub head_removed : IfSome (get (stored_cells old.now.trees) k) (λ l. l.1 ≡ empty) → Executes head_delete_text (Text k.0 ∷ Blob k.1 ∷ []) old new (Ok count) → MakesRows text (Becomes (λ m. remove m k)) old new
+    pub head_removed : IfSome (get (stored_cells old.now.trees) k) (λ l. l.1 ≡ empty) → Executes head_delete_text (Text k.0 ∷ Blob k.1 ∷ []) old new (Ok count) → MakesRows (Becomes (λ m. remove m k)) text old new
     head_removed none ran =
         let d = deletes old new (head_table h) head_delete_text key_terms (Text k.0 ∷ Blob k.1 ∷ []) head_delete_parsed has.head stored.sound (λ at it. head_delete_is old.now.schema at h it) count ran in
         let keyed = all_weaker _ _ (λ r (is : IsHead r). is.keyed) H stored.format.heads in
@@ -136,7 +136,7 @@ module _ (text : List ℕ) (old new : State) (stored : HoldsCells text old.now) 
         head_changed (Becomes (λ m. remove m k)) (others k H) d.only left (all-filter _ _ H stored.format.heads) (filter_numbered head_of _ H stored.heads_numbered)
         (all_both _ _ _ (λ r there apart. head_stays k H r apart there) C heads_are absent) (ap (λ rows. cell_lines (map head_of (others k H)) (map cell_of rows)) (sym (others_all k C absent)) ∙ removed k H C)
 
-    pub head_updated : (v : List ℕ) → length v ≡ 16 → Executes head_update_text (Text k.0 ∷ Blob k.1 ∷ Blob v ∷ []) old new (Ok count) → MakesRows text (HasVersion k v) old new
+    pub head_updated : (v : List ℕ) → length v ≡ 16 → Executes head_update_text (Text k.0 ∷ Blob k.1 ∷ Blob v ∷ []) old new (Ok count) → MakesRows (HasVersion k v) text old new
     head_updated v ver_sixteen ran =
         let d = head_updates old new h stored.sound k v ver_sixteen has.head stored.format.heads stored.heads_numbered count ran in
         let rows = rows_of_head new.now.trees in
@@ -146,7 +146,7 @@ module _ (text : List ℕ) (old new : State) (stored : HoldsCells text old.now) 
         all_weaker _ _ (λ r there. sym (list_any-IsPermutation (has_key (row_key r)) (heads_with k v H) rows d.rows) ∙ keys_stay k v (row_key r) H ∙ there) C heads_are in
         head_changed (HasVersion k v) rows d.only refl d.heads d.numbered owned (version_put H rows C k v d.rows (agree_heads rows d.heads apart d.numbered))
 
-    pub cell_updated : (name body : List ℕ) → Executes cell_update_text (Text k.0 ∷ Blob k.1 ∷ Text name ∷ Blob body ∷ []) old new (Ok count) → MakesRows text (HasBody k name body) old new
+    pub cell_updated : (name body : List ℕ) → Executes cell_update_text (Text k.0 ∷ Blob k.1 ∷ Text name ∷ Blob body ∷ []) old new (Ok count) → MakesRows (HasBody k name body) text old new
     cell_updated name body ran =
         let d = cell_updates old new c stored.sound k name body has.cell stored.format.cells stored.cells_numbered count ran in
         let rows = rows_of_cell new.now.trees in
@@ -162,7 +162,7 @@ module _ (text : List ℕ) (old new : State) (stored : HoldsCells text old.now) 
     keyed_row r n number tbl id = record { number = n; tbl = t; id = i; number_is = number; tbl_is = tbl; id_is = id; named = named; id_sixteen = id_sixteen }
 
     pub head_inserted : (v : List ℕ) → length v ≡ 16 → Executes head_insert_text (Text t ∷ Blob i ∷ Blob v ∷ []) old new (Ok count)
-        → MakesRows text (IsRowBegun (t, i) v) old new
+        → MakesRows (IsRowBegun (t, i) v) text old new
     head_inserted v ver_sixteen ran =
         let d = inserts old new (codes "head") h _ (1 ∷ 2 ∷ []) head_insert_text head_insert_terms 4 (Text t ∷ Blob i ∷ Blob v ∷ []) (head_row t i v) head_insert_parsed has.head stored.sound (λ at it. head_insert_is old.now.schema at h it) (head_adds h t i v) count ran in
         let x = head_row t i v d.number in
@@ -181,7 +181,7 @@ module _ (text : List ℕ) (old new : State) (stored : HoldsCells text old.now) 
         or_true false b e = e
 
     pub cell_inserted : (name body : List ℕ) (l : CellLine) → IsUtf8 name → get (stored_cells old.now.trees) (t, i) ≡ Some l → Executes cell_insert_text (Text t ∷ Blob i ∷ Text name ∷ Blob body ∷ []) old new (Ok count)
-        → MakesRows text (IsCellAdded (t, i) name body) old new
+        → MakesRows (IsCellAdded (t, i) name body) text old new
     cell_inserted name body l col_named line ran =
         let d = inserts old new (codes "cell") c _ (1 ∷ 2 ∷ 3 ∷ []) cell_insert_text cell_insert_terms 5 (Text t ∷ Blob i ∷ Text name ∷ Blob body ∷ []) (cell_row t i name body) cell_insert_parsed has.cell stored.sound (λ at it. cell_insert_is old.now.schema at c it) (cell_adds c t i name body) count ran in
         let x = cell_row t i name body d.number in
@@ -208,7 +208,7 @@ module _ (text : List ℕ) (old new : State) (stored : HoldsCells text old.now) 
     rows_have (e ∷ entries) rows = ap (λ es. e ∷ es) (rows_have entries (put_row (cell_row t i e.0 e.1 (next_rowid rows)) rows))
 
     -- `cell` has more rows, each a cell of this row
-    more_inserted : (entries : List CellEntry) (l : CellLine) → AllByRecursion (λ (e : CellEntry). IsUtf8 e.0) entries → get (stored_cells old.now.trees) (t, i) ≡ Some l → InsertsAll (cell_table c) (cell_rows entries) old new → MakesRows text (AreCellsAdded (t, i) entries) old new
+    more_inserted : (entries : List CellEntry) (l : CellLine) → AllByRecursion (λ (e : CellEntry). IsUtf8 e.0) entries → get (stored_cells old.now.trees) (t, i) ≡ Some l → InsertsAll (cell_table c) (cell_rows entries) old new → MakesRows (AreCellsAdded (t, i) entries) text old new
     more_inserted entries l named_all line d =
         let xs = next_rows (cell_rows entries) C in
         let are = rows_are_cells entries C named_all in
@@ -221,7 +221,7 @@ module _ (text : List ℕ) (old new : State) (stored : HoldsCells text old.now) 
         (subst (λ es. AreCellsAdded (t, i) es (stored_cells old.now.trees) (cell_lines (map head_of H) (map cell_of (put_all C xs)))) (rows_have entries C) added)
 
     pub four_inserted : (p q r s : CellEntry) (l : CellLine) → IsUtf8 p.0 → IsUtf8 q.0 → IsUtf8 r.0 → IsUtf8 s.0 → get (stored_cells old.now.trees) (t, i) ≡ Some l
-        → Executes four_cells_text (four_values t i p q r s) old new (Ok count) → MakesRows text (AreCellsAdded (t, i) (p ∷ q ∷ r ∷ s ∷ [])) old new
+        → Executes four_cells_text (four_values t i p q r s) old new (Ok count) → MakesRows (AreCellsAdded (t, i) (p ∷ q ∷ r ∷ s ∷ [])) text old new
     four_inserted p q r s l np nq nr ns line ran =
         more_inserted (p ∷ q ∷ r ∷ s ∷ []) l (np, (nq, (nr, (ns, tt)))) line
         (inserts_all old new (codes "cell") c _ (1 ∷ 2 ∷ 3 ∷ []) four_cells_text four_cells_terms 5 (four_values t i p q r s) (cell_rows (p ∷ q ∷ r ∷ s ∷ [])) four_cells_parsed has.cell stored.sound (λ at it. four_cells_is old.now.schema at c it) (four_adds c t i p q r s) count ran)

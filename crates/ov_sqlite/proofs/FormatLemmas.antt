@@ -8,7 +8,7 @@ use Rattle.ov_specs.specs.rows.Cells.{Whole as WholeLines, InCells as LinesInCel
 use Rattle.ov_keeper.specs.declared.keeper.Lines.{Lines}
 use Rattle.ov_keeper.specs.declared.keeper.Lines.TheVariants.{Whole, InCells}
 use Rattle.ov_keeper.specs.Views.{lines_view}
-use Rattle.ov_tables.specs.Tables.{meta_table, tree_of, HasTable, HasLineTables, HasCellTables, HasOurTables}
+use Rattle.ov_tables.specs.Tables.{meta_table, tree_number, HasTable, HasLineTables, HasCellTables, HasOurTables}
 use Rattle.ov_tables.specs.Format.{IsMeta, IsFormatRow, IsSchemaRow, NamesOther, stored_in, rows_of_meta}
 use Rattle.ov_tables.specs.Holding.{IsStoredAs}
 use Rattle.ov_sqlite.specs.Reading.{ReadsLines, are_cells}
@@ -47,7 +47,7 @@ told_apart false false h e = let clash : false ≡ true = h in absurd cc
 -- ---- the tables
 
 -- either format has `meta`
-pub meta_there : (schema : Schema) → HasOurTables schema → HasTable schema (meta_table (tree_of schema (codes "meta")))
+pub meta_there : (schema : Schema) → HasOurTables schema → HasTable schema (meta_table (tree_number schema (codes "meta")))
 meta_there schema (inl lines) = lines.meta
 meta_there schema (inr cells) = cells.meta
 

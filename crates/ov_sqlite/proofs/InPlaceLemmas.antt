@@ -18,7 +18,7 @@ use Rattle.ov_specs.specs.schema.SchemaTypes.{name_cmp}
 use Rattle.ov_specs.proofs.laws.LineKeys.{key_total, key_exact, tied_same, same_tied}
 use Rattle.ov_tables.specs.Format.{head_of, cell_of, stored_cells, rows_of_head, rows_of_cell}
 use Rattle.ov_tables.specs.Holding.{HoldsCells}
-use Rattle.ov_tables.specs.Querying.{cell_selected, with_key}
+use Rattle.ov_tables.specs.Querying.{cell_selected, rows_with_key}
 use Rattle.ov_tables.proofs.RowLemmas.{has_key, is_cell_at}
 use Rattle.ov_tables.proofs.UpdateLemmas.{renewed, some_counted}
 use Rattle.ov_tables.proofs.RenewLemmas.{with_version, with_body, heads_with, cells_with, heads_found, cells_found}
@@ -203,9 +203,9 @@ picked k c (r ∷ rows) all =
       | false ↦ next
     ])
 
-module _ (C rows : List Row) (k : LineKey) (same : IsPermutation (map cell_selected (with_key k C)) rows) (agree : (c : List ℕ) → Agree (has_cell k c) body_in C) where
+module _ (C rows : List Row) (k : LineKey) (same : IsPermutation (map cell_selected (rows_with_key k C)) rows) (agree : (c : List ℕ) → Agree (has_cell k c) body_in C) where
   abbrev P : List Row
-  P = with_key k C
+  P = rows_with_key k C
 
   of_key : AllByRecursion (λ r. has_key k r ≡ true) P
   of_key = all_kept (has_key k) C
@@ -242,13 +242,13 @@ head_of_any H (c ∷ C) k all h = go (has_key k c) refl (head_of_any H C k all.1
     go false is later e = later e
 
 -- the cells of a row that were read are those that the map has
-pub row_read : (text : List ℕ) (db : Database) → HoldsCells text db → (k : LineKey) (rows : List Row) → IsPermutation (map cell_selected (with_key k (rows_of_cell db.trees))) rows → HasRead k rows (stored_cells db.trees)
+pub row_read : (text : List ℕ) (db : Database) → HoldsCells text db → (k : LineKey) (rows : List Row) → IsPermutation (map cell_selected (rows_with_key k (rows_of_cell db.trees))) rows → HasRead k rows (stored_cells db.trees)
 row_read text db stored k rows same some =
     let H = rows_of_head db.trees in
     let C = rows_of_cell db.trees in
     let apart = apart_by_key db (codes "cell") _ _ (1 ∷ 2 ∷ 3 ∷ []) stored.format.schema.cell stored.sound in
     let cells = key_cells C rows k same (agree_cells C stored.format.cells apart stored.cells_numbered k) in
-    let as_many : length rows ≡ length (with_key k C) = length_permutation (map cell_selected (with_key k C)) rows same ∙ length-map (with_key k C) cell_selected in
+    let as_many : length rows ≡ length (rows_with_key k C) = length_permutation (map cell_selected (rows_with_key k C)) rows same ∙ length-map (rows_with_key k C) cell_selected in
     let any = some_counted (has_key k) C (subst (λ n. 0 < n) as_many some) in
     let head = any_found (has_key k) H (head_of_any H C k (heads_each H C stored.format.owned) any) in
     (version_in head.0, get_lines C H k ∙ ap (line_at C k) head.1 ∙ ap (λ (m : Cells). Some (version_in head.0, m)) cells)

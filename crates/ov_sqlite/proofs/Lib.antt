@@ -1,5 +1,6 @@
 pub mod PutLemmas
 pub mod RunLemmas
+pub mod WritingLemmas
 pub mod CellLemmas
 pub mod OpenLemmas
 pub mod EndingLemmas

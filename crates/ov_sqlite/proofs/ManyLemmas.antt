@@ -155,7 +155,7 @@ pub refilled : (k : LineKey) (v : List ℕ) (xs : List CellEntry) (a b : CellLin
 refilled k v xs a b added start = more_cells k v [] xs a b start added
 
 -- a row that was there may still be found
-pub may_still : (text : List ℕ) (k : LineKey) (xs : List CellEntry) (a b : State) → MakesRows text (AreCellsAdded k xs) a b → MayHave k (λ _. Unit {0}) a → MayHave k (λ _. Unit {0}) b
+pub may_still : (text : List ℕ) (k : LineKey) (xs : List CellEntry) (a b : State) → MakesRows (AreCellsAdded k xs) text a b → MayHave k (λ _. Unit {0}) a → MayHave k (λ _. Unit {0}) b
 may_still text k xs a b made there up =
     let was = there (made.opens up) in
     let is = added_there k xs (stored_cells a.now.trees) (stored_cells b.now.trees) was.0 was.1 made.lines_are in

@@ -1,4 +1,4 @@
--- Rows whose numbers rise.
+-- Rows whose numbers ascend.
 use Rattle.std.proofs.Common.{◌≡◌, ◌≢◌, ℕ, ℤ, List, [], ◌∷◌, ◌++◌, take, length, get_or, ◌+◌, ◌<◌, refl, sym, ap, subst, ◌∙◌, add-one, Option, Some, None, IfSome, ◌<ℤ◌}
 use Rattle.std.specs.List.{AllByRecursion}
 use Rattle.std.specs.Cmp.{int_chain}
@@ -60,8 +60,8 @@ push_below rows x last n m is above low below =
     further (Some k) h = int_chain k n m h low
 
 pub ascending_push : {X : Type 0} (R : X → X → Type 0) (xs : List X) (x : X) → IsAscending R xs → AllByRecursion (λ a. R a x) xs → IsAscending R (xs ++ x ∷ [])
-ascending_push R [] x rises all = (tt, tt)
-ascending_push R (y ∷ xs) x rises all = (all_push (R y) xs x rises.0 all.0, ascending_push R xs x rises.1 all.1)
+ascending_push R [] x ascends all = (tt, tt)
+ascending_push R (y ∷ xs) x ascends all = (all_push (R y) xs x ascends.0 all.0, ascending_push R xs x ascends.1 all.1)
 
 pub push_distinct : (rows : List Row) (x : Row) (n : ℤ) → column x 0 ≡ Int n → AllByRecursion (λ r. column r 0 ≢ Int n) rows → AreNumbered rows → AreNumbered (rows ++ x ∷ [])
-push_distinct rows x n is apart rises = ascending_push _ rows x rises (all_weaker _ _ (λ r no e. absurd (no (e ∙ is))) rows apart)
+push_distinct rows x n is apart ascends = ascending_push _ rows x ascends (all_weaker _ _ (λ r no e. absurd (no (e ∙ is))) rows apart)

@@ -16,7 +16,7 @@ use Rattle.ov_specs.specs.schema.SchemaTypes.{name_cmp}
 use Rattle.ov_keeper.specs.declared.cell_line.Cell.{Cell}
 use Rattle.ov_keeper.specs.Views.{cell_entry}
 use Rattle.ov_sqlite.specs.Joining.{CellEntry}
-use Rattle.ov_sqlite.specs.Renewing.{shown_entry, AreRising, AreOfColumns, HasVersion, IsBodyChanged, IsRenewed}
+use Rattle.ov_sqlite.specs.Renewing.{shown_entry, DoAscend, AreOfColumns, HasVersion, IsBodyChanged, IsChangedInPlace}
 use Rattle.ov_sqlite.proofs.CellLemmas.{names_total, names_exact, same_name_is, name_itself}
 use Rattle.ov_sqlite.proofs.NumberLemmas.{all_push, all_front, taken_more, ascending_push}
 use Rattle.ov_sqlite.proofs.HeldLemmas.{map_all}
@@ -37,10 +37,10 @@ body_kept k name body m l there has = put_back m k l there ∙ ap (λ (cells : C
 
 -- ---- a body in a list of cells
 
--- the first cell of a column is found behind those of others
-found_behind : (name was : List ℕ) (front back : List CellEntry) → AllByRecursion (λ (e : CellEntry). e.0 ≢ name) front → entry_at name_cmp name (front ++ (name, was) ∷ back) ≡ Some was
-found_behind name was [] back apart = rw (name_itself name) refl
-found_behind name was (e ∷ front) back apart = go (eq_by_cmp name_cmp name e.0) refl (found_behind name was front back apart.1)
+-- the first cell of a column is found after those of others
+found_after : (name was : List ℕ) (front back : List CellEntry) → AllByRecursion (λ (e : CellEntry). e.0 ≢ name) front → entry_at name_cmp name (front ++ (name, was) ∷ back) ≡ Some was
+found_after name was [] back apart = rw (name_itself name) refl
+found_after name was (e ∷ front) back apart = go (eq_by_cmp name_cmp name e.0) refl (found_after name was front back apart.1)
   where
     go : (b : Bool) → eq_by_cmp name_cmp name e.0 ≡ b → entry_at name_cmp name (front ++ (name, was) ∷ back) ≡ Some was → cond b (Some e.1) (entry_at name_cmp name (front ++ (name, was) ∷ back)) ≡ Some was
     go true same next = absurd (apart.0 (sym (same_name_is name e.0 same)))
@@ -50,10 +50,10 @@ twice : {X : Type 0} (b : Bool) (x y z : X) → cond b x z ≡ cond b x (cond b 
 twice true x y z = refl
 twice false x y z = refl
 
-changed_behind : (name was body : List ℕ) (front back : List CellEntry) → AllByRecursion (λ (e : CellEntry). e.0 ≢ name) front
+changed_after : (name was body : List ℕ) (front back : List CellEntry) → AllByRecursion (λ (e : CellEntry). e.0 ≢ name) front
     → (c : List ℕ) → entry_at name_cmp c (front ++ (name, body) ∷ back) ≡ cond (eq_by_cmp name_cmp c name) (Some body) (entry_at name_cmp c (front ++ (name, was) ∷ back))
-changed_behind name was body [] back apart c = twice (eq_by_cmp name_cmp c name) (Some body) (Some was) (entry_at name_cmp c back)
-changed_behind name was body (e ∷ front) back apart c = go (eq_by_cmp name_cmp c e.0) refl (eq_by_cmp name_cmp c name) refl (changed_behind name was body front back apart.1 c)
+changed_after name was body [] back apart c = twice (eq_by_cmp name_cmp c name) (Some body) (Some was) (entry_at name_cmp c back)
+changed_after name was body (e ∷ front) back apart c = go (eq_by_cmp name_cmp c e.0) refl (eq_by_cmp name_cmp c name) refl (changed_after name was body front back apart.1 c)
   where
     go : (a : Bool) → eq_by_cmp name_cmp c e.0 ≡ a → (b : Bool) → eq_by_cmp name_cmp c name ≡ b
         → entry_at name_cmp c (front ++ (name, body) ∷ back) ≡ cond (eq_by_cmp name_cmp c name) (Some body) (entry_at name_cmp c (front ++ (name, was) ∷ back))
@@ -73,14 +73,14 @@ module _ (name was body : List ℕ) (front back : List CellEntry) (apart : AllBy
   body_put : insert before name body ≡ after
   body_put = same_map names_total names_exact _ _ (λ c.
       get-insert names_total before name body c ∙ ap (cond (eq_by_cmp name_cmp c name) (Some body)) (get-from_entries names_total (front ++ (name, was) ∷ back) c)
-      ∙ sym (changed_behind name was body front back apart c) ∙ sym (get-from_entries names_total (front ++ (name, body) ∷ back) c))
+      ∙ sym (changed_after name was body front back apart c) ∙ sym (get-from_entries names_total (front ++ (name, body) ∷ back) c))
 
   -- one more cell of a row has its body
-  pub renewed_more : (k : LineKey) (v : List ℕ) (w : CellLine) (a b d : CellLines) → IsRenewed k w (v, before) a b → IsBodyChanged k name was body b d → IsRenewed k w (v, after) a d
+  pub renewed_more : (k : LineKey) (v : List ℕ) (w : CellLine) (a b d : CellLines) → IsChangedInPlace k w (v, before) a b → IsBodyChanged k name was body b d → IsChangedInPlace k w (v, after) a d
   renewed_more k v w a b d first then start =
       let mid = first start in
       let there = ap (λ (m : CellLines). get m k) mid ∙ put_found a k (v, before) in
-      let has = get-from_entries names_total (front ++ (name, was) ∷ back) name ∙ found_behind name was front back apart in
+      let has = get-from_entries names_total (front ++ (name, was) ∷ back) name ∙ found_after name was front back apart in
       then (v, before) there has ∙ ap (λ (m : CellLines). insert m k (v, insert before name body)) mid ∙ put_over a k _ _ ∙ ap (λ (cells : Cells). insert a k (v, cells)) body_put
 
 -- ---- the cells at a place
@@ -98,9 +98,9 @@ same_at f g (u ∷ xs) (w ∷ ys) (suc i) x y same low a b = same_at f g xs ys i
 
 -- those before a place are below it
 before_below : {X : Type 0} (R : X → X → Type 0) (xs : List X) (i : ℕ) (x : X) → i < length xs → x ≡ get_or xs i x → IsAscending R xs → AllByRecursion (λ y. R y x) (take i xs)
-before_below R [] i x low is rises = absurd (omega (arith, low))
-before_below R (y ∷ xs) zero x low is rises = tt
-before_below R (y ∷ xs) (suc i) x low is rises = (all_front (R y) xs i x (omega (arith, low)) is rises.0, before_below R xs i x (omega (arith, low)) is rises.1)
+before_below R [] i x low is ascends = absurd (omega (arith, low))
+before_below R (y ∷ xs) zero x low is ascends = tt
+before_below R (y ∷ xs) (suc i) x low is ascends = (all_front (R y) xs i x (omega (arith, low)) is ascends.0, before_below R xs i x (omega (arith, low)) is ascends.1)
 
 below_other : (a b : List ℕ) → name_cmp a b ≡ Less → a ≢ b
 below_other a b below same = let clash : Less ≡ Equal = sym below ∙ ap (name_cmp a) (sym same) ∙ tied_itself names_total a in cc
@@ -109,7 +109,7 @@ below_other a b below same = let clash : Less ≡ Equal = sym below ∙ ap (name
 abbrev pub mixed : ℕ → List Cell → List Row → List CellEntry
 mixed i cells rows = map cell_entry (take i cells) ++ map shown_entry (drop i rows)
 
-module _ (cells : List Cell) (rows : List Row) (i : ℕ) (x : Cell) (y : Row) (low : i < length cells) (as_many : length rows ≡ length cells) (x_is : x ≡ get_or cells i x) (y_is : y ≡ get_or rows i y) (of : AreOfColumns rows cells) (rises : AreRising cells) where
+module _ (cells : List Cell) (rows : List Row) (i : ℕ) (x : Cell) (y : Row) (low : i < length cells) (as_many : length rows ≡ length cells) (x_is : x ≡ get_or cells i x) (y_is : y ≡ get_or rows i y) (of : AreOfColumns rows cells) (ascends : DoAscend cells) where
   abbrev front : List CellEntry
   front = map cell_entry (take i cells)
 
@@ -130,13 +130,13 @@ module _ (cells : List Cell) (rows : List Row) (i : ℕ) (x : Cell) (y : Row) (l
       ∙ ap (λ n. front ++ cell_entry x ∷ map shown_entry (drop n rows)) (add-one i)
 
   pub others_before : AllByRecursion (λ (e : CellEntry). e.0 ≢ x.column) front
-  others_before = map_all (λ (e : CellEntry). e.0 ≢ x.column) cell_entry (take i cells) (all_weaker _ _ (λ (c : Cell) below. below_other c.column x.column below) (take i cells) (before_below _ cells i x low x_is rises))
+  others_before = map_all (λ (e : CellEntry). e.0 ≢ x.column) cell_entry (take i cells) (all_weaker _ _ (λ (c : Cell) below. below_other c.column x.column below) (take i cells) (before_below _ cells i x low x_is ascends))
 
   -- with the cell at the place, one more has its body
-  pub renewed_at : (k : LineKey) (v : List ℕ) (w : CellLine) (a b d : CellLines) → IsRenewed k w (v, from_entries (mixed i cells rows)) a b → IsBodyChanged k x.column (bytes (column y 1)) x.body b d → IsRenewed k w (v, from_entries (mixed (i + 1) cells rows)) a d
+  pub renewed_at : (k : LineKey) (v : List ℕ) (w : CellLine) (a b d : CellLines) → IsChangedInPlace k w (v, from_entries (mixed i cells rows)) a b → IsBodyChanged k x.column (bytes (column y 1)) x.body b d → IsChangedInPlace k w (v, from_entries (mixed (i + 1) cells rows)) a d
   renewed_at k v w a b d first then =
-      subst (λ es. IsRenewed k w (v, from_entries es) a d) (sym past_place)
-      (renewed_more x.column (bytes (column y 1)) x.body front back others_before k v w a b d (subst (λ es. IsRenewed k w (v, from_entries es) a b) at_place first) then)
+      subst (λ es. IsChangedInPlace k w (v, from_entries es) a d) (sym past_place)
+      (renewed_more x.column (bytes (column y 1)) x.body front back others_before k v w a b d (subst (λ es. IsChangedInPlace k w (v, from_entries es) a b) at_place first) then)
 
 drop_all : {X : Type 0} (n : ℕ) (xs : List X) → length xs ≤ n → drop n xs ≡ []
 drop_all zero [] h = refl
@@ -144,7 +144,7 @@ drop_all (suc n) [] h = refl
 drop_all zero (x ∷ xs) h = absurd (omega (arith, h))
 drop_all (suc n) (x ∷ xs) h = drop_all n xs (omega (arith, h))
 
--- behind the last cell, each has its body
+-- after the last cell, each has its body
 pub mixed_all : (n : ℕ) (cells : List Cell) (rows : List Row) → length cells ≤ n → length rows ≡ length cells → mixed n cells rows ≡ map cell_entry cells
 mixed_all n cells rows h as_many =
     ap (λ xs. map cell_entry xs ++ map shown_entry (drop n rows)) (take_all n cells h)
@@ -152,12 +152,12 @@ mixed_all n cells rows h as_many =
 
 -- ---- a row that gets its version, and then its cells
 
-pub renewed_row : (k : LineKey) (v u : List ℕ) (read all : Cells) (a b d : CellLines) → get a k ≡ Some (u, read) → HasVersion k v a b → IsRenewed k (v, read) (v, all) b d → d ≡ insert a k (v, all)
+pub renewed_row : (k : LineKey) (v u : List ℕ) (read all : Cells) (a b d : CellLines) → get a k ≡ Some (u, read) → HasVersion k v a b → IsChangedInPlace k (v, read) (v, all) b d → d ≡ insert a k (v, all)
 renewed_row k v u read all a b d there first then =
     let mid = first (u, read) there in
     then (ap (λ (m : CellLines). get m k) mid ∙ put_found a k (v, read)) ∙ ap (λ (m : CellLines). insert m k (v, all)) mid ∙ put_over a k _ _
 
--- ---- names that rise
+-- ---- names that ascend
 
 pub below_push : {S : Type 0} (of : S → List ℕ) (cells : List Cell) (x : Cell) (last : Option S) (n : List ℕ) → IfSome last (λ l. name_cmp (of l) x.column ≡ Less) → name_cmp x.column n ≡ Less
     → ((m : List ℕ) → IfSome last (λ l. name_cmp (of l) m ≡ Less) → AllByRecursion (λ (c : Cell). name_cmp c.column m ≡ Less) cells) → AllByRecursion (λ (c : Cell). name_cmp c.column n ≡ Less) (cells ++ x ∷ [])
@@ -167,8 +167,8 @@ below_push {S} of cells x last n above low below = all_push _ cells x (below n (
     further None h = h
     further (Some l) h = names_total.trans (of l) x.column n h low
 
-pub rising_push : (cells : List Cell) (x : Cell) → AreRising cells → AllByRecursion (λ (c : Cell). name_cmp c.column x.column ≡ Less) cells → AreRising (cells ++ x ∷ [])
-rising_push cells x rises below = ascending_push _ cells x rises below
+pub ascend_push : (cells : List Cell) (x : Cell) → DoAscend cells → AllByRecursion (λ (c : Cell). name_cmp c.column x.column ≡ Less) cells → DoAscend (cells ++ x ∷ [])
+ascend_push cells x ascends below = ascending_push _ cells x ascends below
 
 -- ---- columns that agree
 

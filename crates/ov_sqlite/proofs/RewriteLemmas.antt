@@ -33,7 +33,7 @@ by_format text s true is (inl lines) = absurd (let none = ap is_some (is_free s.
 by_format text s false is (inr cells) =
     absurd (let there = (found_place (λ t. same_name t.name (codes "head")) 0 s.now.schema.tables _ cells.format.schema.head.named).1 in let clash : false ≡ true = is ∙ ap is_some there in cc)
 
-pub remade : (text : List ℕ) (f : CellLines → CellLines) (old a b new : State) → Empties old a → Fills text a b → MakesRows text (Becomes f) b new → Remakes text (f empty) old new
+pub remade : (text : List ℕ) (f : CellLines → CellLines) (old a b new : State) → Empties old a → Fills text a b → MakesRows (Becomes f) text b new → Remakes text (f empty) old new
 remade text f old a b new e filled made =
     let schema = a.now.schema in
     let trees = cell_trees schema in

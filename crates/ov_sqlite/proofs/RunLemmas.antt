@@ -17,11 +17,11 @@ use Rattle.ov_tables.specs.Holding.{HoldsCells, MayHoldCells, KeepsOthers}
 use Rattle.ov_sqlite.specs.Changing.{MakesRows, IsRefusal}
 use Rattle.ov_tables.proofs.KeepLemmas.{others_now, others_after}
 
-pub makes_none : (text : List ℕ) (Became : CellLines → CellLines → Type 0) (s : State) → IsTrue s.in_transaction → MayHoldCells text s → Became (stored_cells s.now.trees) (stored_cells s.now.trees) → MakesRows text Became s s
+pub makes_none : (text : List ℕ) (Became : CellLines → CellLines → Type 0) (s : State) → IsTrue s.in_transaction → MayHoldCells text s → Became (stored_cells s.now.trees) (stored_cells s.now.trees) → MakesRows Became text s s
 makes_none text Became s mode stored same =
     record { mode = mode; opens = λ up. up; stored = stored; lines_are = same; meta = refl; schema = refl; others = others_now _ s.now.schema s.now.trees; committed = refl }
 
-pub makes_then : (text : List ℕ) (P Q R : CellLines → CellLines → Type 0) (a b c : State) → ((k l m : CellLines) → P k l → Q l m → R k m) → MakesRows text P a b → MakesRows text Q b c → MakesRows text R a c
+pub makes_then : (text : List ℕ) (P Q R : CellLines → CellLines → Type 0) (a b c : State) → ((k l m : CellLines) → P k l → Q l m → R k m) → MakesRows P text a b → MakesRows Q text b c → MakesRows R text a c
 makes_then text P Q R a b c is one two = record {
   mode = two.mode;
   opens = λ up. one.opens (two.opens up);
@@ -34,7 +34,7 @@ makes_then text P Q R a b c is one two = record {
 }
 
 -- what was done is also something weaker
-pub makes_weaker : (text : List ℕ) (P Q : CellLines → CellLines → Type 0) (a b : State) → (P (stored_cells a.now.trees) (stored_cells b.now.trees) → Q (stored_cells a.now.trees) (stored_cells b.now.trees)) → MakesRows text P a b → MakesRows text Q a b
+pub makes_weaker : (text : List ℕ) (P Q : CellLines → CellLines → Type 0) (a b : State) → (P (stored_cells a.now.trees) (stored_cells b.now.trees) → Q (stored_cells a.now.trees) (stored_cells b.now.trees)) → MakesRows P text a b → MakesRows Q text a b
 makes_weaker text P Q a b is made = record {
   mode = made.mode;
   opens = made.opens;
@@ -79,7 +79,7 @@ refused_as sql params a b e ran (Err f) is = refused_same sql params a b f (subs
 pub may_same : (text : List ℕ) (a b : State) → IsUnchanged a b → MayHoldCells text a → MayHoldCells text b
 may_same text a b same may up = subst (HoldsCells text) (sym same.0.now_is) (may same.0.was_open)
 
-pub makes_same : (text : List ℕ) (P : CellLines → CellLines → Type 0) (a b c : State) → IsUnchanged a b → MakesRows text P b c → MakesRows text P a c
+pub makes_same : (text : List ℕ) (P : CellLines → CellLines → Type 0) (a b c : State) → IsUnchanged a b → MakesRows P text b c → MakesRows P text a c
 makes_same text P a b c same made = record {
   mode = made.mode;
   opens = λ up. same.0.was_open;

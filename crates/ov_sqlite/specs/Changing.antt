@@ -16,7 +16,7 @@ use Rattle.ov_tables.specs.Tables.{row_trees}
 use Rattle.ov_tables.specs.Holding.{HoldsCells, MayHoldCells, KeepsOthers}
 
 -- in a transaction that goes on, the rows of stored format 2 became others, as `Became` relates them, and nothing was committed
-pub record MakesRows (text : List ℕ) (Became : CellLines → CellLines → Type 0) (old new : State)
+pub record MakesRows (Became : CellLines → CellLines → Type 0) (text : List ℕ) (old new : State)
     : Type 0 where
   pub mode : IsTrue new.in_transaction
   pub opens : IsTrue new.is_open → IsTrue old.is_open
@@ -39,19 +39,19 @@ IsEmptied key old new =
 abbrev pub IsRowBegun : LineKey → Uuid → CellLines → CellLines → Type 0
 IsRowBegun key version old new = (get old key ≡ None) × (new ≡ insert old key (version, empty))
 
--- the row of this key has one more cell, of a column that had none
+-- the row of this key, if there is one, has one more cell, of a column that had none
 abbrev pub IsCellAdded : LineKey → List ℕ → List ℕ → CellLines → CellLines → Type 0
 IsCellAdded key name body old new =
     (l : CellLine) → get old key ≡ Some l
     → (get l.1 name ≡ None) × (new ≡ insert old key (l.0, insert l.1 name body))
 
--- the row of this key has these cells more, one after the other, each of a column that had none
+-- the row of this key, if there is one, has these cells more, one after the other, each of a column that had none
 abbrev pub AreCellsAdded : LineKey → List (List ℕ × List ℕ) → CellLines → CellLines → Type 0
 AreCellsAdded key [] old new = new ≡ old
 AreCellsAdded key (c ∷ cs) old new =
     (mid : CellLines) × IsCellAdded key c.0 c.1 old mid × AreCellsAdded key cs mid new
 
--- the row of this key, which had no cells, has these
+-- the row of this key, if it had this version and no cells, has these cells
 abbrev pub IsRefilled : LineKey → CellLine → CellLines → CellLines → Type 0
 IsRefilled key line old new = get old key ≡ Some (line.0, empty) → new ≡ insert old key line
 
@@ -68,11 +68,11 @@ MayBeEmpty key s = IsTrue s.is_open → IfSome (get (stored_cells s.now.trees) k
 abbrev pub IsRefusal : Error → Type 0
 IsRefusal e = (rule : Constraint) × (e ≡ SqliteFailure (ConstraintViolation rule))
 
--- they became what f makes of them
+-- the rows became what f makes of them
 abbrev pub Becomes : (CellLines → CellLines) → CellLines → CellLines → Type 0
 Becomes f old new = new ≡ f old
 
--- the changes are committed
+-- the rows became what f makes of them, that is committed, and everything else is as it was
 pub record Stores (text : List ℕ) (f : CellLines → CellLines) (old new : State) : Type 0 where
   pub was_open : IsTrue old.is_open
   pub is_open : IsTrue new.is_open

@@ -19,7 +19,7 @@ pub record AreJoined (heads cells : List Row) (lines : List CellLine) : Type 0 w
   pub joined : map line_parts lines ≡ map (head_parts cells) heads
   pub owned : have_heads (map head_of heads) (map cell_of cells) ≡ true
 
--- from its first state, it put these rows into their lines, each of which is a cell; their numbers rise
+-- from its first state, it put these rows into their lines, each of which is a cell; their numbers ascend
 pub record HasJoined (first now : Joining) (cells : List Row) : Type 0 where
   pub sound : now.is_malformed ≡ false
   pub are : AllByRecursion IsCell cells

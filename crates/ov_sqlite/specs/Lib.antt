@@ -1,4 +1,5 @@
 pub mod Changing
+pub mod Writing
 pub mod Renewing
 pub mod Rewriting
 pub mod Joining

@@ -22,11 +22,11 @@ HasRead key rows lines =
     0 < length rows
     → (version : Uuid) × (get lines key ≡ Some (version, from_entries (map shown_entry rows)))
 
--- the names of the columns rise
-abbrev pub AreRising : List Cell → Type 0
-AreRising cells = IsAscending (λ a b. name_cmp a.column b.column ≡ Less) cells
+-- the names of the cells' columns ascend
+abbrev pub DoAscend : List Cell → Type 0
+DoAscend cells = IsAscending (λ a b. name_cmp a.column b.column ≡ Less) cells
 
--- the rows are of cells of these columns, in this order
+-- each row is of the column of the cell at its place
 abbrev pub AreOfColumns : List Row → List Cell → Type 0
 AreOfColumns rows cells = map (λ x. bytes (column x 0)) rows ≡ map (λ c. c.column) cells
 
@@ -45,6 +45,6 @@ IsBodyChanged key name was body old new =
 abbrev pub HasBody : LineKey → List ℕ → List ℕ → CellLines → CellLines → Type 0
 HasBody key name body old new = (was : List ℕ) → IsBodyChanged key name was body old new
 
--- the row of this key, if it was the first, is the second
-abbrev pub IsRenewed : LineKey → CellLine → CellLine → CellLines → CellLines → Type 0
-IsRenewed key was line old new = get old key ≡ Some was → new ≡ insert old key line
+-- the row of this key, if it was the first, became the second
+abbrev pub IsChangedInPlace : LineKey → CellLine → CellLine → CellLines → CellLines → Type 0
+IsChangedInPlace key was line old new = get old key ≡ Some was → new ≡ insert old key line

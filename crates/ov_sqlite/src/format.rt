@@ -43,7 +43,7 @@ fn read_joined<S: Alter>(
     match each_cell(conn, &mut joining) {
         Ok(true) => Ok(joining.lines),
         Ok(false) if joining.is_malformed => Err(KeepFault::Format),
-        // The numbers of the rows do not rise.
+        // The numbers of the rows do not ascend.
         Ok(false) => Err(KeepFault::Device),
         Err(error) => Err(fault_of(&error)),
     }

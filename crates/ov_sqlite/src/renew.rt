@@ -4,15 +4,14 @@ ghost use Rattle.std.specs.Prelude.{◌≡◌, ◌<◌, length, map, IsTrue, IfS
 ghost use Rattle.std.specs.declared.cmp.Ordering.TheVariants.{Less};
 ghost use Rattle.std.specs.FinMap.{from_entries};
 ghost use Rattle.sqlite.specs.Order.{column};
-ghost use Rattle.sqlite.specs.State.{Survives};
-ghost use Rattle.sqlite.specs.Held.{state};
 ghost use Rattle.sqlite_value.specs.Order.{bytes};
 ghost use Rattle.ov_specs.specs.schema.SchemaTypes.{name_cmp};
 ghost use Rattle.ov_keeper.specs.Views.{cells_view};
-ghost use Rattle.ov_tables.specs.Inside.{DoesInside, GoesOnInside, CommitsNothing};
+ghost use Rattle.ov_tables.specs.Holding.{MayHoldCells};
 ghost use Rattle.ov_sqlite.specs.Changing.{MakesRows};
-ghost use Rattle.ov_sqlite.specs.Renewing.{AreRising, AreOfColumns, shown_entry};
-ghost use Rattle.ov_sqlite.specs.Renewing.{HasVersion, HasBody, IsBodyChanged, IsRenewed};
+ghost use Rattle.ov_sqlite.specs.Writing.{WritesTables};
+ghost use Rattle.ov_sqlite.specs.Renewing.{DoAscend, AreOfColumns, shown_entry};
+ghost use Rattle.ov_sqlite.specs.Renewing.{HasVersion, HasBody, IsBodyChanged, IsChangedInPlace};
 
 use crate::value::{id_bytes, is_blob_at, is_text_at};
 use ov_keeper::{Cell, CellLine};
@@ -33,9 +32,9 @@ fn is_after(name: &str, last: Option<&str>) -> bool
     }
 }
 
-/// Whether the names of the cells' columns rise.
-fn are_rising(cells: &[Cell]) -> bool
-    ensures { IsTrue result → AreRising cells.now }
+/// Whether the names of the cells' columns ascend.
+fn do_ascend(cells: &[Cell]) -> bool
+    ensures { IsTrue result → DoAscend cells.now }
 {
     let mut last = None;
     for cell in cells {
@@ -48,7 +47,7 @@ fn are_rising(cells: &[Cell]) -> bool
     true
 }
 
-/// Whether the rows are of cells of these columns, in this order.
+/// Whether each row is of the column of the cell at its place.
 fn have_columns(rows: &[Row], cells: &[Cell]) -> bool
     requires { length rows.now ≡ length cells.now }
     ensures { IsTrue result → AreOfColumns rows.now cells.now }
@@ -61,17 +60,17 @@ fn have_columns(rows: &[Row], cells: &[Cell]) -> bool
     true
 }
 
-/// Whether the rows, of which there are some, are of cells of these columns, in this order, in which their names rise.
+/// Whether there is a row for each cell, of its column, in the same order, at least one, and the columns' names ascend.
 pub(crate) fn are_of(rows: &[Row], cells: &[Cell]) -> bool
     ensures some { IsTrue result → 0 < length rows.now }
     ensures as_many { IsTrue result → length rows.now ≡ length cells.now }
     ensures columns { IsTrue result → AreOfColumns rows.now cells.now }
-    ensures rising { IsTrue result → AreRising cells.now }
+    ensures ascend { IsTrue result → DoAscend cells.now }
 {
     if rows.len() == 0 || rows.len() != cells.len() {
         return false;
     }
-    are_rising(cells) && have_columns(rows, cells)
+    do_ascend(cells) && have_columns(rows, cells)
 }
 
 /// Gives the head of this row the row's version.
@@ -79,15 +78,9 @@ pub(crate) fn update_head<S: Alter>(
     tx: &mut Transaction<'_, S>,
     line: &CellLine,
 ) -> Result<(), Error>
-    ensures same_reference { tx.new.conn.ghost_name ≡ tx.old.conn.ghost_name }
-    ensures ok { DoesInside (λ text. MakesRows text
-        (HasVersion (line.now.table, line.now.id) line.now.version))
-        (state S.Store tx.old.conn.now) (state S.Store tx.new.conn.now) result }
-    ensures goes_on { GoesOnInside (state S.Store tx.old.conn.now)
-        (state S.Store tx.new.conn.now) result }
-    ensures kept { CommitsNothing (state S.Store tx.old.conn.now) (state S.Store tx.new.conn.now) }
-    ensures survives { Survives (state S.Store tx.old.conn.now) (state S.Store tx.new.conn.now)
-        (λ _. ⊥) }
+    ensures writes { WritesTables S.Store result MayHoldCells
+        (MakesRows (HasVersion (line.now.table, line.now.id) line.now.version))
+        tx.old.conn tx.new.conn }
 {
     let values = [
         ValueRef::Text(line.table.as_str().as_bytes()),
@@ -104,15 +97,9 @@ fn update_cell<S: Alter>(
     line: &CellLine,
     cell: &Cell,
 ) -> Result<(), Error>
-    ensures same_reference { tx.new.conn.ghost_name ≡ tx.old.conn.ghost_name }
-    ensures ok { DoesInside (λ text. MakesRows text
-        (HasBody (line.now.table, line.now.id) cell.now.column cell.now.body))
-        (state S.Store tx.old.conn.now) (state S.Store tx.new.conn.now) result }
-    ensures goes_on { GoesOnInside (state S.Store tx.old.conn.now)
-        (state S.Store tx.new.conn.now) result }
-    ensures kept { CommitsNothing (state S.Store tx.old.conn.now) (state S.Store tx.new.conn.now) }
-    ensures survives { Survives (state S.Store tx.old.conn.now) (state S.Store tx.new.conn.now)
-        (λ _. ⊥) }
+    ensures writes { WritesTables S.Store result MayHoldCells
+        (MakesRows (HasBody (line.now.table, line.now.id) cell.now.column cell.now.body))
+        tx.old.conn tx.new.conn }
 {
     let values = [
         ValueRef::Text(line.table.as_str().as_bytes()),
@@ -127,23 +114,16 @@ fn update_cell<S: Alter>(
     Ok(())
 }
 
-/// Gives a cell its body, if what was read of it has another.
+/// Gives a cell its body, unless the body that was read is the same.
 fn renew_cell<S: Alter>(
     tx: &mut Transaction<'_, S>,
     line: &CellLine,
     cell: &Cell,
     row: &Row,
 ) -> Result<(), Error>
-    ensures same_reference { tx.new.conn.ghost_name ≡ tx.old.conn.ghost_name }
-    ensures ok { DoesInside (λ text. MakesRows text
-        (IsBodyChanged (line.now.table, line.now.id)
-        cell.now.column (bytes (column row.now 1)) cell.now.body))
-        (state S.Store tx.old.conn.now) (state S.Store tx.new.conn.now) result }
-    ensures goes_on { GoesOnInside (state S.Store tx.old.conn.now)
-        (state S.Store tx.new.conn.now) result }
-    ensures kept { CommitsNothing (state S.Store tx.old.conn.now) (state S.Store tx.new.conn.now) }
-    ensures survives { Survives (state S.Store tx.old.conn.now) (state S.Store tx.new.conn.now)
-        (λ _. ⊥) }
+    ensures writes { WritesTables S.Store result MayHoldCells
+        (MakesRows (IsBodyChanged (line.now.table, line.now.id)
+        cell.now.column (bytes (column row.now 1)) cell.now.body)) tx.old.conn tx.new.conn }
 {
     if is_blob_at(row, 1, cell.body.as_slice()) {
         return Ok(());
@@ -151,7 +131,7 @@ fn renew_cell<S: Alter>(
     update_cell(tx, line, cell)
 }
 
-/// Gives each cell of this row its body, of which these rows were read. Cells that have it are left as they are.
+/// Gives each cell of the row its body. `rows` are what was read of these cells; a cell that has its body is left as it is.
 pub(crate) fn update_cells<S: Alter>(
     tx: &mut Transaction<'_, S>,
     line: &CellLine,
@@ -159,18 +139,11 @@ pub(crate) fn update_cells<S: Alter>(
 ) -> Result<(), Error>
     requires as_many { length rows.now ≡ length line.now.cells.items }
     requires columns { AreOfColumns rows.now line.now.cells.items }
-    requires rising { AreRising line.now.cells.items }
-    ensures same_reference { tx.new.conn.ghost_name ≡ tx.old.conn.ghost_name }
-    ensures ok { DoesInside (λ text. MakesRows text
-        (IsRenewed (line.now.table, line.now.id)
+    requires ascend { DoAscend line.now.cells.items }
+    ensures writes { WritesTables S.Store result MayHoldCells
+        (MakesRows (IsChangedInPlace (line.now.table, line.now.id)
         (line.now.version, from_entries (map shown_entry rows.now))
-        (line.now.version, cells_view line.now.cells.items)))
-        (state S.Store tx.old.conn.now) (state S.Store tx.new.conn.now) result }
-    ensures goes_on { GoesOnInside (state S.Store tx.old.conn.now)
-        (state S.Store tx.new.conn.now) result }
-    ensures kept { CommitsNothing (state S.Store tx.old.conn.now) (state S.Store tx.new.conn.now) }
-    ensures survives { Survives (state S.Store tx.old.conn.now) (state S.Store tx.new.conn.now)
-        (λ _. ⊥) }
+        (line.now.version, cells_view line.now.cells.items))) tx.old.conn tx.new.conn }
 {
     let cells = line.cells.as_slice();
     for at in 0..cells.len() {

@@ -1,6 +1,6 @@
 //! Replacing the schema's text and all rows, from either stored format, by rows of format 2.
 
-ghost use Rattle.std.specs.Prelude.{◌≡◌, codes, false, is_some, IsTrue, OnOk, OnErr, IfErr};
+ghost use Rattle.std.specs.Prelude.{◌≡◌, codes, false, is_some, OnOk, OnErr, IfErr};
 ghost use Rattle.std.specs.FinMap.{empty};
 ghost use Rattle.sqlite.specs.State.{HasCleanDisk, Survives, KeepsCommit};
 ghost use Rattle.sqlite.specs.Held.{state};
@@ -10,8 +10,8 @@ ghost use Rattle.ov_keeper.specs.Views.{changes_view};
 ghost use Rattle.ov_tables.specs.WriteError.{IsBefore};
 ghost use Rattle.ov_tables.specs.Holding.{MayBeStored};
 ghost use Rattle.ov_tables.specs.Querying.{IsAsBefore};
-ghost use Rattle.ov_tables.specs.Inside.{GoesOnInside, CommitsNothing};
 ghost use Rattle.ov_tables.specs.Emptying.{MayHold};
+ghost use Rattle.ov_sqlite.specs.Writing.{WritesTables};
 ghost use Rattle.ov_sqlite.specs.Rewriting.{Remakes, Rewrites, IsRewriteImage};
 
 use crate::write::apply_all;
@@ -28,17 +28,9 @@ fn rewrite<S: Alter>(
     schema: &Text,
     changes: &[Change],
 ) -> Result<(), Error>
-    ensures same_reference { tx.new.conn.ghost_name ≡ tx.old.conn.ghost_name }
-    ensures ok { HasCleanDisk (state S.Store tx.new.conn.now)
-        → IsTrue (state S.Store tx.old.conn.now).in_transaction → (text : _)
-        → MayHold in_cells text (state S.Store tx.old.conn.now)
-        → OnOk result (Remakes schema.now (after_cell_changes (changes_view changes.now) empty)
-        (state S.Store tx.old.conn.now) (state S.Store tx.new.conn.now)) }
-    ensures goes_on { GoesOnInside (state S.Store tx.old.conn.now)
-        (state S.Store tx.new.conn.now) result }
-    ensures kept { CommitsNothing (state S.Store tx.old.conn.now) (state S.Store tx.new.conn.now) }
-    ensures survives { Survives (state S.Store tx.old.conn.now) (state S.Store tx.new.conn.now)
-        (λ _. ⊥) }
+    ensures writes { WritesTables S.Store result (MayHold in_cells)
+        (λ _. Remakes schema.now (after_cell_changes (changes_view changes.now) empty))
+        tx.old.conn tx.new.conn }
 {
     clear_tables(tx, in_cells)?;
     fill_meta(tx, schema)?;

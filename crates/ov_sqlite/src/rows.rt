@@ -21,8 +21,8 @@ pub(crate) fn is_above(number: i64, last: Option<i64>) -> bool
     }
 }
 
-/// Checks that the numbers of the rows rise. If they do not, that is a wrong answer of the device, since a table is read in the
-/// order of its numbers.
+/// Checks that the numbers of the rows ascend. If they do not, that is a wrong answer of the device, since a table is read in
+/// the order of its numbers.
 pub(crate) fn test_numbers(rows: &[Row]) -> Result<(), KeepFault>
     ensures numbered { OnOk result (IsNumbered (λ r. r) rows.now) }
     ensures distinct { OnOk result (AreNumbered rows.now) }

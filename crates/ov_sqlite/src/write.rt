@@ -13,8 +13,7 @@ ghost use Rattle.ov_tables.specs.Holding.{MayHoldCells};
 ghost use Rattle.ov_sqlite.specs.Changing.{MakesRows, Becomes, IsEmptied, IsRowBegun, IsCellAdded};
 ghost use Rattle.ov_sqlite.specs.Changing.{AreCellsAdded, IsRefilled, IsRefusal};
 ghost use Rattle.ov_sqlite.specs.Changing.{MayHave, MayBeEmpty, Stores, IsCommitImage};
-ghost use Rattle.ov_tables.specs.Inside.{DoesInside, DoesInsideIf, WasOpenInside, GoesOnInside};
-ghost use Rattle.ov_tables.specs.Inside.{CommitsNothing};
+ghost use Rattle.ov_sqlite.specs.Writing.{WritesTables, WritesOpenTables, MayHoldWith};
 ghost use Rattle.ov_tables.specs.Querying.{IsAsBefore};
 
 use crate::renew::{are_of, update_cells, update_head};
@@ -27,16 +26,8 @@ use uuid::Uuid;
 
 /// Removes the cells of the row of this key.
 fn remove_cells<S: Alter>(tx: &mut Transaction<'_, S>, table: &str, id: Uuid) -> Result<(), Error>
-    ensures same_reference { tx.new.conn.ghost_name ≡ tx.old.conn.ghost_name }
-    ensures ok { DoesInside (λ text. MakesRows text (IsEmptied (table.now, id)))
-        (state S.Store tx.old.conn.now) (state S.Store tx.new.conn.now) result }
-    ensures opened { WasOpenInside (state S.Store tx.old.conn.now)
-        (state S.Store tx.new.conn.now) result }
-    ensures goes_on { GoesOnInside (state S.Store tx.old.conn.now)
-        (state S.Store tx.new.conn.now) result }
-    ensures kept { CommitsNothing (state S.Store tx.old.conn.now) (state S.Store tx.new.conn.now) }
-    ensures survives { Survives (state S.Store tx.old.conn.now) (state S.Store tx.new.conn.now)
-        (λ _. ⊥) }
+    ensures writes { WritesOpenTables S.Store result MayHoldCells
+        (MakesRows (IsEmptied (table.now, id))) tx.old.conn tx.new.conn }
 {
     let key = [
         ValueRef::Text(table.as_bytes()),
@@ -48,15 +39,8 @@ fn remove_cells<S: Alter>(tx: &mut Transaction<'_, S>, table: &str, id: Uuid) ->
 
 /// Removes the head of the row of this key, which has no cells.
 fn remove_head<S: Alter>(tx: &mut Transaction<'_, S>, table: &str, id: Uuid) -> Result<(), Error>
-    ensures same_reference { tx.new.conn.ghost_name ≡ tx.old.conn.ghost_name }
-    ensures ok { DoesInsideIf (MayBeEmpty (table.now, id))
-        (λ text. MakesRows text (Becomes (λ m. remove m (table.now, id))))
-        (state S.Store tx.old.conn.now) (state S.Store tx.new.conn.now) result }
-    ensures goes_on { GoesOnInside (state S.Store tx.old.conn.now)
-        (state S.Store tx.new.conn.now) result }
-    ensures kept { CommitsNothing (state S.Store tx.old.conn.now) (state S.Store tx.new.conn.now) }
-    ensures survives { Survives (state S.Store tx.old.conn.now) (state S.Store tx.new.conn.now)
-        (λ _. ⊥) }
+    ensures writes { WritesTables S.Store result (MayHoldWith (MayBeEmpty (table.now, id)))
+        (MakesRows (Becomes (λ m. remove m (table.now, id)))) tx.old.conn tx.new.conn }
 {
     let key = [
         ValueRef::Text(table.as_bytes()),
@@ -68,16 +52,8 @@ fn remove_head<S: Alter>(tx: &mut Transaction<'_, S>, table: &str, id: Uuid) -> 
 
 /// Removes the row of this key with all its cells.
 fn remove_row<S: Alter>(tx: &mut Transaction<'_, S>, table: &str, id: Uuid) -> Result<(), Error>
-    ensures same_reference { tx.new.conn.ghost_name ≡ tx.old.conn.ghost_name }
-    ensures ok { DoesInside (λ text. MakesRows text (Becomes (λ m. remove m (table.now, id))))
-        (state S.Store tx.old.conn.now) (state S.Store tx.new.conn.now) result }
-    ensures opened { WasOpenInside (state S.Store tx.old.conn.now)
-        (state S.Store tx.new.conn.now) result }
-    ensures goes_on { GoesOnInside (state S.Store tx.old.conn.now)
-        (state S.Store tx.new.conn.now) result }
-    ensures kept { CommitsNothing (state S.Store tx.old.conn.now) (state S.Store tx.new.conn.now) }
-    ensures survives { Survives (state S.Store tx.old.conn.now) (state S.Store tx.new.conn.now)
-        (λ _. ⊥) }
+    ensures writes { WritesOpenTables S.Store result MayHoldCells
+        (MakesRows (Becomes (λ m. remove m (table.now, id)))) tx.old.conn tx.new.conn }
 {
     remove_cells(tx, table, id)?;
     remove_head(tx, table, id)
@@ -85,21 +61,13 @@ fn remove_row<S: Alter>(tx: &mut Transaction<'_, S>, table: &str, id: Uuid) -> R
 
 /// Adds the head of a row that is not there. SQLite refuses a second head of one key; then nothing has changed.
 fn insert_head<S: Alter>(tx: &mut Transaction<'_, S>, line: &CellLine) -> Result<(), Error>
-    ensures same_reference { tx.new.conn.ghost_name ≡ tx.old.conn.ghost_name }
-    ensures ok { DoesInside (λ text. MakesRows text
-        (IsRowBegun (line.now.table, line.now.id) line.now.version))
-        (state S.Store tx.old.conn.now) (state S.Store tx.new.conn.now) result }
+    ensures writes { WritesOpenTables S.Store result MayHoldCells
+        (MakesRows (IsRowBegun (line.now.table, line.now.id) line.now.version))
+        tx.old.conn tx.new.conn }
     ensures refused { HasCleanDisk (state S.Store tx.new.conn.now)
         → IsTrue (state S.Store tx.old.conn.now).in_transaction
         → IfErr result (λ e. IsRefusal e
         → IsUnchanged (state S.Store tx.old.conn.now) (state S.Store tx.new.conn.now)) }
-    ensures opened { WasOpenInside (state S.Store tx.old.conn.now)
-        (state S.Store tx.new.conn.now) result }
-    ensures goes_on { GoesOnInside (state S.Store tx.old.conn.now)
-        (state S.Store tx.new.conn.now) result }
-    ensures kept { CommitsNothing (state S.Store tx.old.conn.now) (state S.Store tx.new.conn.now) }
-    ensures survives { Survives (state S.Store tx.old.conn.now) (state S.Store tx.new.conn.now)
-        (λ _. ⊥) }
 {
     let values = [
         ValueRef::Text(line.table.as_str().as_bytes()),
@@ -116,16 +84,10 @@ fn insert_cell<S: Alter>(
     line: &CellLine,
     cell: &Cell,
 ) -> Result<(), Error>
-    ensures same_reference { tx.new.conn.ghost_name ≡ tx.old.conn.ghost_name }
-    ensures ok { DoesInsideIf (MayHave (line.now.table, line.now.id) (λ _. Unit {0}))
-        (λ text. MakesRows text
-        (IsCellAdded (line.now.table, line.now.id) cell.now.column cell.now.body))
-        (state S.Store tx.old.conn.now) (state S.Store tx.new.conn.now) result }
-    ensures goes_on { GoesOnInside (state S.Store tx.old.conn.now)
-        (state S.Store tx.new.conn.now) result }
-    ensures kept { CommitsNothing (state S.Store tx.old.conn.now) (state S.Store tx.new.conn.now) }
-    ensures survives { Survives (state S.Store tx.old.conn.now) (state S.Store tx.new.conn.now)
-        (λ _. ⊥) }
+    ensures writes { WritesTables S.Store result
+        (MayHoldWith (MayHave (line.now.table, line.now.id) (λ _. Unit {0})))
+        (MakesRows (IsCellAdded (line.now.table, line.now.id) cell.now.column cell.now.body))
+        tx.old.conn tx.new.conn }
 {
     let values = [
         ValueRef::Text(line.table.as_str().as_bytes()),
@@ -149,16 +111,11 @@ fn insert_four<S: Alter>(
     c: &Cell,
     d: &Cell,
 ) -> Result<(), Error>
-    ensures same_reference { tx.new.conn.ghost_name ≡ tx.old.conn.ghost_name }
-    ensures ok { DoesInsideIf (MayHave (line.now.table, line.now.id) (λ _. Unit {0}))
-        (λ text. MakesRows text (AreCellsAdded (line.now.table, line.now.id)
+    ensures writes { WritesTables S.Store result
+        (MayHoldWith (MayHave (line.now.table, line.now.id) (λ _. Unit {0})))
+        (MakesRows (AreCellsAdded (line.now.table, line.now.id)
         (cell_entry a.now ∷ cell_entry b.now ∷ cell_entry c.now ∷ cell_entry d.now ∷ [])))
-        (state S.Store tx.old.conn.now) (state S.Store tx.new.conn.now) result }
-    ensures goes_on { GoesOnInside (state S.Store tx.old.conn.now)
-        (state S.Store tx.new.conn.now) result }
-    ensures kept { CommitsNothing (state S.Store tx.old.conn.now) (state S.Store tx.new.conn.now) }
-    ensures survives { Survives (state S.Store tx.old.conn.now) (state S.Store tx.new.conn.now)
-        (λ _. ⊥) }
+        tx.old.conn tx.new.conn }
 {
     let values = [
         ValueRef::Text(line.table.as_str().as_bytes()),
@@ -185,16 +142,10 @@ fn insert_each<S: Alter>(
     line: &CellLine,
     cells: &[Cell],
 ) -> Result<(), Error>
-    ensures same_reference { tx.new.conn.ghost_name ≡ tx.old.conn.ghost_name }
-    ensures ok { DoesInsideIf (MayHave (line.now.table, line.now.id) (λ _. Unit {0}))
-        (λ text. MakesRows text
-        (AreCellsAdded (line.now.table, line.now.id) (map cell_entry cells.now)))
-        (state S.Store tx.old.conn.now) (state S.Store tx.new.conn.now) result }
-    ensures goes_on { GoesOnInside (state S.Store tx.old.conn.now)
-        (state S.Store tx.new.conn.now) result }
-    ensures kept { CommitsNothing (state S.Store tx.old.conn.now) (state S.Store tx.new.conn.now) }
-    ensures survives { Survives (state S.Store tx.old.conn.now) (state S.Store tx.new.conn.now)
-        (λ _. ⊥) }
+    ensures writes { WritesTables S.Store result
+        (MayHoldWith (MayHave (line.now.table, line.now.id) (λ _. Unit {0})))
+        (MakesRows (AreCellsAdded (line.now.table, line.now.id) (map cell_entry cells.now)))
+        tx.old.conn tx.new.conn }
 {
     for cell in cells {
         insert_cell(tx, line, cell)?;
@@ -204,17 +155,10 @@ fn insert_each<S: Alter>(
 
 /// Adds the cells of a row, whose head is there without any: four by one statement, while there are four.
 fn insert_cells<S: Alter>(tx: &mut Transaction<'_, S>, line: &CellLine) -> Result<(), Error>
-    ensures same_reference { tx.new.conn.ghost_name ≡ tx.old.conn.ghost_name }
-    ensures ok { DoesInsideIf (MayHave (line.now.table, line.now.id)
-        (λ l. l ≡ (line.now.version, empty)))
-        (λ text. MakesRows text (IsRefilled
-        (line.now.table, line.now.id) (line.now.version, cells_view line.now.cells.items)))
-        (state S.Store tx.old.conn.now) (state S.Store tx.new.conn.now) result }
-    ensures goes_on { GoesOnInside (state S.Store tx.old.conn.now)
-        (state S.Store tx.new.conn.now) result }
-    ensures kept { CommitsNothing (state S.Store tx.old.conn.now) (state S.Store tx.new.conn.now) }
-    ensures survives { Survives (state S.Store tx.old.conn.now) (state S.Store tx.new.conn.now)
-        (λ _. ⊥) }
+    ensures writes { WritesTables S.Store result
+        (MayHoldWith (MayHave (line.now.table, line.now.id) (λ l. l ≡ (line.now.version, empty))))
+        (MakesRows (IsRefilled (line.now.table, line.now.id)
+        (line.now.version, cells_view line.now.cells.items))) tx.old.conn tx.new.conn }
 {
     let cells = line.cells.as_slice();
     let mut done = 0;
@@ -234,36 +178,21 @@ fn insert_cells<S: Alter>(tx: &mut Transaction<'_, S>, line: &CellLine) -> Resul
 
 /// Removes the row of this key with all its cells, if there is one, and puts this one in its place.
 fn replace_row<S: Alter>(tx: &mut Transaction<'_, S>, line: &CellLine) -> Result<(), Error>
-    ensures same_reference { tx.new.conn.ghost_name ≡ tx.old.conn.ghost_name }
-    ensures ok { DoesInside (λ text. MakesRows text (Becomes
+    ensures writes { WritesOpenTables S.Store result MayHoldCells (MakesRows (Becomes
         (λ m. insert m (cell_line_entry line.now).0 (cell_line_entry line.now).1)))
-        (state S.Store tx.old.conn.now) (state S.Store tx.new.conn.now) result }
-    ensures opened { WasOpenInside (state S.Store tx.old.conn.now)
-        (state S.Store tx.new.conn.now) result }
-    ensures goes_on { GoesOnInside (state S.Store tx.old.conn.now)
-        (state S.Store tx.new.conn.now) result }
-    ensures kept { CommitsNothing (state S.Store tx.old.conn.now) (state S.Store tx.new.conn.now) }
-    ensures survives { Survives (state S.Store tx.old.conn.now) (state S.Store tx.new.conn.now)
-        (λ _. ⊥) }
+        tx.old.conn tx.new.conn }
 {
     remove_row(tx, line.table.as_str(), line.id)?;
     insert_head(tx, line)?;
     insert_cells(tx, line)
 }
 
-/// Puts a row in place of the one with its key. If that one has the same columns, only what differs is written.
+/// Puts a row in place of the one with its key. If that one has the same columns, only its version and the cells that differ
+/// are written.
 fn update_row<S: Alter>(tx: &mut Transaction<'_, S>, line: &CellLine) -> Result<(), Error>
-    ensures same_reference { tx.new.conn.ghost_name ≡ tx.old.conn.ghost_name }
-    ensures ok { DoesInside (λ text. MakesRows text (Becomes
+    ensures writes { WritesOpenTables S.Store result MayHoldCells (MakesRows (Becomes
         (λ m. insert m (cell_line_entry line.now).0 (cell_line_entry line.now).1)))
-        (state S.Store tx.old.conn.now) (state S.Store tx.new.conn.now) result }
-    ensures opened { WasOpenInside (state S.Store tx.old.conn.now)
-        (state S.Store tx.new.conn.now) result }
-    ensures goes_on { GoesOnInside (state S.Store tx.old.conn.now)
-        (state S.Store tx.new.conn.now) result }
-    ensures kept { CommitsNothing (state S.Store tx.old.conn.now) (state S.Store tx.new.conn.now) }
-    ensures survives { Survives (state S.Store tx.old.conn.now) (state S.Store tx.new.conn.now)
-        (λ _. ⊥) }
+        tx.old.conn tx.new.conn }
 {
     let rows = cells_of(tx, line.table.as_str(), id_bytes(&line.id))?;
     if !are_of(rows.as_slice(), line.cells.as_slice()) {
@@ -275,17 +204,9 @@ fn update_row<S: Alter>(tx: &mut Transaction<'_, S>, line: &CellLine) -> Result<
 
 /// Puts a row in place of the one with its key. A new row takes only what adds it: where SQLite takes its head, there was none.
 fn put_row<S: Alter>(tx: &mut Transaction<'_, S>, line: &CellLine) -> Result<(), Error>
-    ensures same_reference { tx.new.conn.ghost_name ≡ tx.old.conn.ghost_name }
-    ensures ok { DoesInside (λ text. MakesRows text (Becomes
+    ensures writes { WritesOpenTables S.Store result MayHoldCells (MakesRows (Becomes
         (λ m. insert m (cell_line_entry line.now).0 (cell_line_entry line.now).1)))
-        (state S.Store tx.old.conn.now) (state S.Store tx.new.conn.now) result }
-    ensures opened { WasOpenInside (state S.Store tx.old.conn.now)
-        (state S.Store tx.new.conn.now) result }
-    ensures goes_on { GoesOnInside (state S.Store tx.old.conn.now)
-        (state S.Store tx.new.conn.now) result }
-    ensures kept { CommitsNothing (state S.Store tx.old.conn.now) (state S.Store tx.new.conn.now) }
-    ensures survives { Survives (state S.Store tx.old.conn.now) (state S.Store tx.new.conn.now)
-        (λ _. ⊥) }
+        tx.old.conn tx.new.conn }
 {
     match insert_head(tx, line) {
         Ok(()) => insert_cells(tx, line),
@@ -294,18 +215,10 @@ fn put_row<S: Alter>(tx: &mut Transaction<'_, S>, line: &CellLine) -> Result<(),
     }
 }
 
+/// Makes one change.
 fn apply<S: Alter>(tx: &mut Transaction<'_, S>, change: &Change) -> Result<(), Error>
-    ensures same_reference { tx.new.conn.ghost_name ≡ tx.old.conn.ghost_name }
-    ensures ok { DoesInside (λ text. MakesRows text (Becomes
-        (after_cell_change (change_view change.now))))
-        (state S.Store tx.old.conn.now) (state S.Store tx.new.conn.now) result }
-    ensures opened { WasOpenInside (state S.Store tx.old.conn.now)
-        (state S.Store tx.new.conn.now) result }
-    ensures goes_on { GoesOnInside (state S.Store tx.old.conn.now)
-        (state S.Store tx.new.conn.now) result }
-    ensures kept { CommitsNothing (state S.Store tx.old.conn.now) (state S.Store tx.new.conn.now) }
-    ensures survives { Survives (state S.Store tx.old.conn.now) (state S.Store tx.new.conn.now)
-        (λ _. ⊥) }
+    ensures writes { WritesOpenTables S.Store result MayHoldCells (MakesRows (Becomes
+        (after_cell_change (change_view change.now)))) tx.old.conn tx.new.conn }
 {
     match change {
         Change::Put(line) => put_row(tx, line),
@@ -313,22 +226,16 @@ fn apply<S: Alter>(tx: &mut Transaction<'_, S>, change: &Change) -> Result<(), E
     }
 }
 
+/// Makes the changes in their order. Commits nothing.
 pub(crate) fn apply_all<S: Alter>(
     tx: &mut Transaction<'_, S>,
     changes: &[Change],
 ) -> Result<(), Error>
-    ensures same_reference { tx.new.conn.ghost_name ≡ tx.old.conn.ghost_name }
-    ensures ok { DoesInside (λ text. MakesRows text (Becomes
-        (after_cell_changes (changes_view changes.now))))
-        (state S.Store tx.old.conn.now) (state S.Store tx.new.conn.now) result }
+    ensures writes { WritesTables S.Store result MayHoldCells (MakesRows (Becomes
+        (after_cell_changes (changes_view changes.now)))) tx.old.conn tx.new.conn }
     ensures opened { HasCleanDisk (state S.Store tx.new.conn.now)
         → IsTrue (state S.Store tx.old.conn.now).in_transaction
         → OnOk result (0 < length changes.now → IsTrue (state S.Store tx.old.conn.now).is_open) }
-    ensures goes_on { GoesOnInside (state S.Store tx.old.conn.now)
-        (state S.Store tx.new.conn.now) result }
-    ensures kept { CommitsNothing (state S.Store tx.old.conn.now) (state S.Store tx.new.conn.now) }
-    ensures survives { Survives (state S.Store tx.old.conn.now) (state S.Store tx.new.conn.now)
-        (λ _. ⊥) }
 {
     for change in changes {
         apply(tx, change)?;

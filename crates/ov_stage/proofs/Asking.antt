@@ -17,7 +17,7 @@ use Rattle.ov_specs.specs.schema.Schema.{is_some_and}
 use Rattle.ov_specs.specs.schema.SchemaTypes.{Table, Schema}
 use Rattle.ov_specs.specs.values.Uuid.{Uuid}
 use Rattle.ov_specs.specs.values.Value.{Datum}
-use Rattle.ov_stage.specs.Asked.{Ascend, AreIdsOf, AreValuesOf, IsKeyOf, IsValueOf, has_id, stands_in}
+use Rattle.ov_stage.specs.Asked.{Ascend, AreIdsOf, AreValuesOf, IsKeyOf, IsValueOf, has_id, is_at_key}
 
 -- ---- the values of an index
 
@@ -75,5 +75,5 @@ ids-asked conditions schema rows indexes name table key are is of id row found m
     kept indexes key id ∙ are key id
     ∙ ap (λ n. is_some_and (λ r. is_at schema ((n, id), r) key) (get rows (n, id))) of.0
     ∙ ap (is_some_and (λ r. is_at schema ((name, id), r) key)) found
-    ∙ ap (is_some_and (λ t. stands_in name t row key)) (sym is)
+    ∙ ap (is_some_and (λ t. is_at_key name t row key)) (sym is)
     ∙ of.1 ((name, id), row) met

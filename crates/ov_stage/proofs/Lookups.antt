@@ -24,14 +24,14 @@ use Rattle.ov_db.specs.Changing.{Delta, applied}
 use Rattle.ov_db.proofs.Places.{get-applied, or_before}
 use Rattle.ov_rows.specs.Lending.{lent_row, lent_row_of}
 use Rattle.ov_rows.specs.declared.row_view.RowView.{RowView}
-use Rattle.ov_stage.specs.Staging.{AreOnlyOf, with_key}
+use Rattle.ov_stage.specs.Staging.{AreOnlyOf, entry_if_found}
 
 abbrev Entries : Type 0
 Entries = List (LineKey × Row)
 
 -- what is at a key, with the key
 abbrev pub at_key : LineKey → Option Row → Entries
-at_key key row = option_to_list (with_key key row)
+at_key key row = option_to_list (entry_if_found key row)
 
 -- ---- what a map of the code finds, with its key
 
@@ -43,18 +43,18 @@ module _ {K X : Type 0} (R : K → K → Ordering) (exact : IsAntisymmetric R) (
   get-lookup : (q : K) (es : List (K × X)) → es ≡ entries m → get m q ≡ lookup (is_at (R q)) es
   get-lookup q es is = get-entries m q ∙ ap (find R q) (sym is) ∙ find-lookup q es
 
-  pub found-none : (q : K) (es : List (K × X)) → es ≡ entries m → None ≡ lookup (is_at (R q)) es → None ≡ with_key q (get m q)
-  found-none q es is none = ap (with_key q) (none ∙ sym (get-lookup q es is))
+  pub found-none : (q : K) (es : List (K × X)) → es ≡ entries m → None ≡ lookup (is_at (R q)) es → None ≡ entry_if_found q (get m q)
+  found-none q es is none = ap (entry_if_found q) (none ∙ sym (get-lookup q es is))
 
-  pub found-some : (q k : K) (x : X) (es : List (K × X)) → es ≡ entries m → R q k ≡ Equal → Some x ≡ lookup (is_at (R q)) es → Some (k, x) ≡ with_key q (get m q)
-  found-some q k x es is tied some = (λ i. Some (sym (exact q k tied) i, x)) ∙ ap (with_key q) (some ∙ sym (get-lookup q es is))
+  pub found-some : (q k : K) (x : X) (es : List (K × X)) → es ≡ entries m → R q k ≡ Equal → Some x ≡ lookup (is_at (R q)) es → Some (k, x) ≡ entry_if_found q (get m q)
+  found-some q k x es is tied some = (λ i. Some (sym (exact q k tied) i, x)) ∙ ap (entry_if_found q) (some ∙ sym (get-lookup q es is))
 
 -- the same with the identifier alone
-pub id-some : {X : Type 0} (key k : LineKey) (x : X) (found : Option X) → Some (k, x) ≡ with_key key found → with_key key.1 found ≡ Some (k.1, x)
+pub id-some : {X : Type 0} (key k : LineKey) (x : X) (found : Option X) → Some (k, x) ≡ entry_if_found key found → entry_if_found key.1 found ≡ Some (k.1, x)
 id-some key k x None e = cc
 id-some {X} key k x (Some y) e = sym (ap (option_map (λ (p : LineKey × X). (p.0.1, p.1))) e)
 
-pub id-none : {X : Type 0} (key : LineKey) (found : Option X) → None ≡ with_key key found → with_key key.1 found ≡ None
+pub id-none : {X : Type 0} (key : LineKey) (found : Option X) → None ≡ entry_if_found key found → entry_if_found key.1 found ≡ None
 id-none key None e = refl
 id-none key (Some y) e = cc
 
@@ -89,7 +89,7 @@ module _ (table : List ℕ) (id : Uuid) where
   get-no_table db is = get-rows_in db None is
 
   -- the row, borrowed with its identifier, and with its key
-  pub keyed-lent : (row : Option RowView) (is : Option Row) → option_map lent_row row ≡ with_key id is → option_map (lent_row_of table) row ≡ with_key (table, id) is
+  pub keyed-lent : (row : Option RowView) (is : Option Row) → option_map lent_row row ≡ entry_if_found id is → option_map (lent_row_of table) row ≡ entry_if_found (table, id) is
   keyed-lent None None e = refl
   keyed-lent None (Some r) e = cc
   keyed-lent (Some row) None e = cc
@@ -98,19 +98,19 @@ module _ (table : List ℕ) (id : Uuid) where
 -- ---- the row of a key after changes
 
 module _ (delta : Delta) (db : Database) (key : LineKey) where
-  pub after-changed : (id : Uuid) (change : Option Row) → with_key key.1 (get delta key) ≡ Some (id, change) → with_key (key.0, id) change ≡ with_key key (get (applied delta db) key)
+  pub after-changed : (id : Uuid) (change : Option Row) → entry_if_found key.1 (get delta key) ≡ Some (id, change) → entry_if_found (key.0, id) change ≡ entry_if_found key (get (applied delta db) key)
   after-changed id change is = by (get delta key) refl is
     where
-      by : (o : Option (Option Row)) → get delta key ≡ o → with_key key.1 o ≡ Some (id, change) → with_key (key.0, id) change ≡ with_key key (get (applied delta db) key)
+      by : (o : Option (Option Row)) → get delta key ≡ o → entry_if_found key.1 o ≡ Some (id, change) → entry_if_found (key.0, id) change ≡ entry_if_found key (get (applied delta db) key)
       by None found is = cc
       by (Some c) found is =
           let same = same_Some (id, change) (key.1, c) (sym is) in
-          (λ i. with_key (key.0, (same i).0) ((same i).1)) ∙ ap (with_key key) (sym (get-applied delta db key ∙ ap (λ o. or_before o (get db key)) found))
+          (λ i. entry_if_found (key.0, (same i).0) ((same i).1)) ∙ ap (entry_if_found key) (sym (get-applied delta db key ∙ ap (λ o. or_before o (get db key)) found))
 
-  pub after-unchanged : with_key key.1 (get delta key) ≡ None → get db key ≡ get (applied delta db) key
+  pub after-unchanged : entry_if_found key.1 (get delta key) ≡ None → get db key ≡ get (applied delta db) key
   after-unchanged is = by (get delta key) refl is
     where
-      by : (o : Option (Option Row)) → get delta key ≡ o → with_key key.1 o ≡ None → get db key ≡ get (applied delta db) key
+      by : (o : Option (Option Row)) → get delta key ≡ o → entry_if_found key.1 o ≡ None → get db key ≡ get (applied delta db) key
       by None found is = sym (get-applied delta db key ∙ ap (λ o. or_before o (get db key)) found)
       by (Some c) found is = cc
 

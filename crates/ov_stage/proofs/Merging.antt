@@ -19,7 +19,7 @@ use Rattle.ov_rows.specs.Resident.{database_of}
 use Rattle.ov_rows.proofs.Nesting.{within}
 use Rattle.ov_db.proofs.Places.{Changes, get-applied, or_before}
 use Rattle.ov_stage.specs.Asked.{rows_after}
-use Rattle.ov_stage.specs.Staging.{row_made, place, placed}
+use Rattle.ov_stage.specs.Staging.{row_made, place, place_each}
 use Rattle.ov_projection.proofs.Equal.{drop-at, map-push}
 use Rattle.ov_specs.proofs.laws.Truths.{both_hold, cond-not, left_holds, less_is, right_holds}
 
@@ -48,12 +48,12 @@ entries-with_change : (k : LineKey) (o : Option Row) (db : Database) → entries
 entries-with_change k (Some row) db = entries-insert key_total db k row
 entries-with_change k None db = entries-remove db k
 
-entries-with_changes : (cs : Changes) (db : Database) → entries (with_row_changes cs db) ≡ placed line_cmp cs (entries db)
+entries-with_changes : (cs : Changes) (db : Database) → entries (with_row_changes cs db) ≡ place_each line_cmp cs (entries db)
 entries-with_changes [] db = refl
-entries-with_changes (c ∷ cs) db = entries-with_changes cs (with_row_change c.0 c.1 db) ∙ ap (placed line_cmp cs) (entries-with_change c.0 c.1 db)
+entries-with_changes (c ∷ cs) db = entries-with_changes cs (with_row_change c.0 c.1 db) ∙ ap (place_each line_cmp cs) (entries-with_change c.0 c.1 db)
 
-pub placed_is : (cs : Changes) (es : Entries) → T (is_sorted line_cmp es) → placed line_cmp cs es ≡ entries (with_row_changes cs (database_of es))
-placed_is cs es h = sym (entries-with_changes cs (database_of es) ∙ ap (placed line_cmp cs) (entries-from_sorted line_cmp es h))
+pub placed_is : (cs : Changes) (es : Entries) → T (is_sorted line_cmp es) → place_each line_cmp cs es ≡ entries (with_row_changes cs (database_of es))
+placed_is cs es h = sym (entries-with_changes cs (database_of es) ∙ ap (place_each line_cmp cs) (entries-from_sorted line_cmp es h))
 
 abbrev pub Rows : Type 0
 Rows = List (Uuid × Row)
@@ -94,10 +94,10 @@ place_after r k (Some row) es p = ap (λ o. by_order o ((k, row) ∷ r ∷ es) (
 place_after r k None es p = ap (λ o. cond (not (is_eq o)) (r ∷ where_key id_cmp (λ x. not (eq_by_cmp id_cmp k x)) es) (where_key id_cmp (λ x. not (eq_by_cmp id_cmp k x)) es)) p
 
 -- a row below all changes stays where it is
-pub placed_after : (r : Uuid × Row) (cs : Made) (es : Rows) → T (below_all id_cmp r.0 cs) → placed id_cmp cs (r ∷ es) ≡ r ∷ placed id_cmp cs es
+pub placed_after : (r : Uuid × Row) (cs : Made) (es : Rows) → T (below_all id_cmp r.0 cs) → place_each id_cmp cs (r ∷ es) ≡ r ∷ place_each id_cmp cs es
 placed_after r [] es h = refl
 placed_after r (c ∷ cs) es h =
-    ap (placed id_cmp cs) (place_after r c.0 c.1 es (after_less r.0 c.0 (less_is _ (left_holds _ _ h)))) ∙ placed_after r cs (place id_cmp c.0 c.1 es) (right_holds _ _ h)
+    ap (place_each id_cmp cs) (place_after r c.0 c.1 es (after_less r.0 c.0 (less_is _ (left_holds _ _ h)))) ∙ placed_after r cs (place id_cmp c.0 c.1 es) (right_holds _ _ h)
 
 put_front : (k : Uuid) (row : Row) (es : Rows) → T (below_all id_cmp k es) → put id_cmp k row es ≡ (k, row) ∷ es
 put_front k row [] h = refl
@@ -110,16 +110,16 @@ all_others k (e ∷ es) h =
     ap (λ o. cond (not (is_eq o)) (e ∷ others) others) (less_is _ (left_holds _ _ h)) ∙ ap (λ rest. e ∷ rest) (all_others k es (right_holds _ _ h))
 
 -- a change below all rows
-pub placed_first : (k : Uuid) (o : Option Row) (cs : Made) (es : Rows) → T (below_all id_cmp k cs) → T (below_all id_cmp k es) → placed id_cmp ((k, o) ∷ cs) es ≡ row_made (k, o) ++ placed id_cmp cs es
-placed_first k (Some row) cs es g h = ap (placed id_cmp cs) (put_front k row es h) ∙ placed_after (k, row) cs es g
-placed_first k None cs es g h = ap (placed id_cmp cs) (all_others k es h)
+pub placed_first : (k : Uuid) (o : Option Row) (cs : Made) (es : Rows) → T (below_all id_cmp k cs) → T (below_all id_cmp k es) → place_each id_cmp ((k, o) ∷ cs) es ≡ row_made (k, o) ++ place_each id_cmp cs es
+placed_first k (Some row) cs es g h = ap (place_each id_cmp cs) (put_front k row es h) ∙ placed_after (k, row) cs es g
+placed_first k None cs es g h = ap (place_each id_cmp cs) (all_others k es h)
 
 -- a change of the first row
 pub placed_over : (k : Uuid) (o : Option Row) (cs : Made) (r : Uuid × Row) (es : Rows) → T (below_all id_cmp k cs) → id_cmp r.0 k ≡ Equal → T (is_sorted id_cmp (r ∷ es))
-    → placed id_cmp ((k, o) ∷ cs) (r ∷ es) ≡ row_made (k, o) ++ placed id_cmp cs es
+    → place_each id_cmp ((k, o) ∷ cs) (r ∷ es) ≡ row_made (k, o) ++ place_each id_cmp cs es
 placed_over k (Some row) cs r es g e h =
     let same_key = name_exact r.0 k e in
-    ap (placed id_cmp cs) (ap (λ q. by_order (id_cmp k q) ((k, row) ∷ r ∷ es) ((q, row) ∷ es) (r ∷ put id_cmp k row es)) same_key
+    ap (place_each id_cmp cs) (ap (λ q. by_order (id_cmp k q) ((k, row) ∷ r ∷ es) ((q, row) ∷ es) (r ∷ put id_cmp k row es)) same_key
     ∙ ap (λ o. by_order o ((k, row) ∷ r ∷ es) ((k, row) ∷ es) (r ∷ put id_cmp k row es)) (name_cmp_total.antisymm k k ∙ ap ordering_reverse (itself k r.0 same_key e)))
     ∙ placed_after (k, row) cs es g
   where
@@ -128,11 +128,11 @@ placed_over k (Some row) cs r es g e h =
 placed_over k None cs r es g e h =
     let same_key = name_exact r.0 k e in
     let others = where_key id_cmp (λ x. not (eq_by_cmp id_cmp k x)) es in
-    ap (placed id_cmp cs) (ap (λ o. cond (not (is_eq o)) (r ∷ others) others) (ap (id_cmp k) same_key ∙ sym (ap (λ q. id_cmp q k) same_key) ∙ e)
+    ap (place_each id_cmp cs) (ap (λ o. cond (not (is_eq o)) (r ∷ others) others) (ap (id_cmp k) same_key ∙ sym (ap (λ q. id_cmp q k) same_key) ∙ e)
     ∙ all_others k es (below_same k r.0 es (sym same_key) (left_holds _ _ h)))
 
 -- changes without rows
-pub placed_all : (cs : Made) → T (is_sorted id_cmp cs) → placed id_cmp cs [] ≡ flat_map row_made cs
+pub placed_all : (cs : Made) → T (is_sorted id_cmp cs) → place_each id_cmp cs [] ≡ flat_map row_made cs
 placed_all [] h = refl
 placed_all (c ∷ cs) h = placed_first c.0 c.1 cs [] (left_holds _ _ h) tt ∙ ap (λ rest. row_made (c.0, c.1) ++ rest) (placed_all cs (right_holds _ _ h))
 
@@ -147,7 +147,7 @@ module _ {A B : Type 0} (f : A → Uuid × Row) (g : B → Uuid × Option Row) (
 
   -- what there is, with what the others will make
   abbrev pub with_others : Rows → ℕ → ℕ → Rows
-  with_others ms i j = ms ++ placed id_cmp (map g (drop j ys)) (map f (drop i xs))
+  with_others ms i j = ms ++ place_each id_cmp (map g (drop j ys)) (map f (drop i xs))
 
   module _ (i j : ℕ) (x : A) (y : B) (p : i < length xs) (at_x : x ≡ get_or xs i x) (q : j < length ys) (at_y : y ≡ get_or ys j y) (h : T (is_sorted id_cmp (map f (drop i xs)))) (k : T (is_sorted id_cmp (map g (drop j ys)))) where
     rows_here : T (is_sorted id_cmp (f x ∷ map f (drop (i + 1) xs)))
@@ -164,8 +164,8 @@ module _ {A B : Type 0} (f : A → Uuid × Row) (g : B → Uuid × Option Row) (
 
     pub row_turn : (ms : Rows) → id_cmp (f x).0 (g y).0 ≡ Less → with_others (ms ++ f x ∷ []) (i + 1) j ≡ with_others ms i j
     row_turn ms e =
-        append_assoc ms (f x ∷ []) (placed id_cmp (map g (drop j ys)) (map f (drop (i + 1) xs)))
-        ∙ ap (λ es. ms ++ es) (sym (ap (placed id_cmp (map g (drop j ys))) (row_at i x p at_x)
+        append_assoc ms (f x ∷ []) (place_each id_cmp (map g (drop j ys)) (map f (drop (i + 1) xs)))
+        ∙ ap (λ es. ms ++ es) (sym (ap (place_each id_cmp (map g (drop j ys))) (row_at i x p at_x)
         ∙ placed_after (f x) (map g (drop j ys)) (map f (drop (i + 1) xs)) below))
       where
         below : T (below_all id_cmp (f x).0 (map g (drop j ys)))
@@ -173,15 +173,15 @@ module _ {A B : Type 0} (f : A → Uuid × Row) (g : B → Uuid × Option Row) (
 
     pub same_turn : (ms : Rows) → id_cmp (f x).0 (g y).0 ≡ Equal → with_others (ms ++ row_made (g y)) (i + 1) (j + 1) ≡ with_others ms i j
     same_turn ms e =
-        append_assoc ms (row_made (g y)) (placed id_cmp (map g (drop (j + 1) ys)) (map f (drop (i + 1) xs)))
-        ∙ ap (λ es. ms ++ es) (sym (ap (placed id_cmp (map g (drop j ys))) (row_at i x p at_x)
-        ∙ ap (λ (cs : Made). placed id_cmp cs (f x ∷ map f (drop (i + 1) xs))) (change_at j y q at_y)
+        append_assoc ms (row_made (g y)) (place_each id_cmp (map g (drop (j + 1) ys)) (map f (drop (i + 1) xs)))
+        ∙ ap (λ es. ms ++ es) (sym (ap (place_each id_cmp (map g (drop j ys))) (row_at i x p at_x)
+        ∙ ap (λ (cs : Made). place_each id_cmp cs (f x ∷ map f (drop (i + 1) xs))) (change_at j y q at_y)
         ∙ placed_over (g y).0 (g y).1 (map g (drop (j + 1) ys)) (f x) (map f (drop (i + 1) xs)) (below_rest (g y) (map g (drop (j + 1) ys)) changes_here) e rows_here))
 
     pub change_turn : (ms : Rows) → id_cmp (f x).0 (g y).0 ≡ Greater → with_others (ms ++ row_made (g y)) i (j + 1) ≡ with_others ms i j
     change_turn ms e =
-        append_assoc ms (row_made (g y)) (placed id_cmp (map g (drop (j + 1) ys)) (map f (drop i xs)))
-        ∙ ap (λ es. ms ++ es) (sym (ap (λ (cs : Made). placed id_cmp cs (map f (drop i xs))) (change_at j y q at_y)
+        append_assoc ms (row_made (g y)) (place_each id_cmp (map g (drop (j + 1) ys)) (map f (drop i xs)))
+        ∙ ap (λ es. ms ++ es) (sym (ap (λ (cs : Made). place_each id_cmp cs (map f (drop i xs))) (change_at j y q at_y)
         ∙ placed_first (g y).0 (g y).1 (map g (drop (j + 1) ys)) (map f (drop i xs)) (below_rest (g y) (map g (drop (j + 1) ys)) changes_here) below))
       where
         below : T (below_all id_cmp (g y).0 (map f (drop i xs)))
@@ -192,13 +192,13 @@ module _ {A B : Type 0} (f : A → Uuid × Row) (g : B → Uuid × Option Row) (
   rows_through ms i j h k =
       ap (λ zs. (ms ++ map f zs) ++ flat_map row_made (map g (drop j ys))) (drop_all i xs h)
       ∙ append_assoc ms [] (flat_map row_made (map g (drop j ys)))
-      ∙ ap (λ es. ms ++ es) (sym (placed_all (map g (drop j ys)) k) ∙ ap (λ zs. placed id_cmp (map g (drop j ys)) (map f zs)) (sym (drop_all i xs h)))
+      ∙ ap (λ es. ms ++ es) (sym (placed_all (map g (drop j ys)) k) ∙ ap (λ zs. place_each id_cmp (map g (drop j ys)) (map f zs)) (sym (drop_all i xs h)))
 
   pub changes_through : (ms : Rows) (i j : ℕ) → length ys ≤ j → (ms ++ map f (drop i xs)) ++ flat_map row_made (map g (drop j ys)) ≡ with_others ms i j
   changes_through ms i j h =
       ap (λ zs. (ms ++ map f (drop i xs)) ++ flat_map row_made (map g zs)) (drop_all j ys h)
       ∙ append-nil (ms ++ map f (drop i xs))
-      ∙ ap (λ zs. ms ++ placed id_cmp (map g zs) (map f (drop i xs))) (sym (drop_all j ys h))
+      ∙ ap (λ zs. ms ++ place_each id_cmp (map g zs) (map f (drop i xs))) (sym (drop_all j ys h))
 
 -- ---- the rows of one table
 
@@ -285,12 +285,12 @@ module _ (table : List ℕ) where
   place_keyed id (Some row) es = put_keyed id row es
   place_keyed id None es = others_keyed id es
 
-  pub placed_keyed : (cs : Made) (es : Rows) → placed line_cmp (keyed cs) (keyed es) ≡ keyed (placed id_cmp cs es)
+  pub placed_keyed : (cs : Made) (es : Rows) → place_each line_cmp (keyed cs) (keyed es) ≡ keyed (place_each id_cmp cs es)
   placed_keyed [] es = refl
-  placed_keyed (c ∷ cs) es = ap (placed line_cmp (keyed cs)) (place_keyed c.0 c.1 es) ∙ placed_keyed cs (place id_cmp c.0 c.1 es)
+  placed_keyed (c ∷ cs) es = ap (place_each line_cmp (keyed cs)) (place_keyed c.0 c.1 es) ∙ placed_keyed cs (place id_cmp c.0 c.1 es)
 
   -- changes made by identifiers are those made by keys
-  pub merged_is : (cs : Made) (es : Rows) → T (is_sorted line_cmp (keyed es)) → keyed (placed id_cmp cs es) ≡ entries (with_row_changes (keyed cs) (database_of (keyed es)))
+  pub merged_is : (cs : Made) (es : Rows) → T (is_sorted line_cmp (keyed es)) → keyed (place_each id_cmp cs es) ≡ entries (with_row_changes (keyed cs) (database_of (keyed es)))
   merged_is cs es h = sym (placed_keyed cs es) ∙ placed_is (keyed cs) (keyed es) h
 
   pub keyed-map : {A X : Type 0} (f : A → Uuid × X) (xs : List A) → keyed (map f xs) ≡ map (λ x. ((table, (f x).0), (f x).1)) xs

@@ -26,7 +26,7 @@ use Rattle.ov_rows.specs.Resident.{database_of}
 use Rattle.ov_rows.specs.declared.row_view.RowView.{RowView}
 use Rattle.ov_rows.proofs.Nesting.{within}
 use Rattle.ov_stage.specs.Asked.{Ascend, AreIdsOf, changes_of, has_id, rows_after, rows_of_ids}
-use Rattle.ov_stage.specs.Staging.{with_key}
+use Rattle.ov_stage.specs.Staging.{entry_if_found}
 use Rattle.ov_stage.proofs.Lookups.{at_key, get-of_table, get-no_table}
 use Rattle.ov_stage.proofs.Merging.{get-after, keyed}
 
@@ -135,16 +135,16 @@ module _ (db : Database) (table : List ℕ) where
   get-rows : (q : Uuid) (ids : List Uuid) → Ascend ids → get (database_of (rows_at ids)) (table, q) ≡ cond (has_id ids q) (get db (table, q)) None
   get-rows q ids h = get-from_sorted line_cmp (rows_at ids) (table, q) (rows-sorted ids h) ∙ find-rows q ids
 
-  keyed-at : (id : Uuid) (o : Option Row) (es : List (Uuid × Row)) → keyed table (option_to_list (with_key id o) ++ es) ≡ at_key (table, id) o ++ keyed table es
+  keyed-at : (id : Uuid) (o : Option Row) (es : List (Uuid × Row)) → keyed table (option_to_list (entry_if_found id o) ++ es) ≡ at_key (table, id) o ++ keyed table es
   keyed-at id None es = refl
   keyed-at id (Some row) es = refl
 
   -- they are those of the table, by their keys
   pub rows-in_table : (rows : TableRows) → rows_in table (Some rows) ≡ filter (λ r. bytes_eq r.0.0 table) (entries db) → (ids : List Uuid)
-      → keyed table (flat_map (λ id. option_to_list (with_key id (get rows id))) ids) ≡ rows_at ids
+      → keyed table (flat_map (λ id. option_to_list (entry_if_found id (get rows id))) ids) ≡ rows_at ids
   rows-in_table rows is [] = refl
   rows-in_table rows is (id ∷ ids) =
-      let others = flat_map (λ id. option_to_list (with_key id (get rows id))) ids in
+      let others = flat_map (λ id. option_to_list (entry_if_found id (get rows id))) ids in
       keyed-at id (get rows id) others
       ∙ ap (λ o. at_key (table, id) o ++ keyed table others) (sym (get-of_table table id db rows is)) ∙ ap (λ (es : Entries). at_key (table, id) (get db (table, id)) ++ es) (rows-in_table rows is ids)
 

@@ -18,7 +18,7 @@ use Rattle.ov_specs.specs.schema.Schema.{is_some_and}
 use Rattle.ov_specs.specs.schema.SchemaTypes.{Table}
 use Rattle.ov_specs.specs.values.Uuid.{Uuid}
 use Rattle.ov_specs.specs.values.Value.{Datum}
-use Rattle.ov_stage.specs.Staging.{with_key}
+use Rattle.ov_stage.specs.Staging.{entry_if_found}
 use Rattle.ov_stage.specs.declared.indexed.Indexed.{Indexed}
 
 -- ---- what every row has that meets all conditions
@@ -32,12 +32,12 @@ abbrev pub AreValuesOf : List Condition → List (List ℕ) → List Datum → T
 AreValuesOf conditions index values = (row : LineKey × Row) → meets_all conditions row ≡ true → values_in index row.1.columns ≡ values
 
 -- the row of the table, which has this name, is at this key
-abbrev pub stands_in : List ℕ → Table → Row → IndexKey → Bool
-stands_in name table row key = is_some_and (λ index. same_index_key (key_at name key.number index row.columns) key) (slice_get table.indexes key.number)
+abbrev pub is_at_key : List ℕ → Table → Row → IndexKey → Bool
+is_at_key name table row key = is_some_and (λ index. same_index_key (key_at name key.number index row.columns) key) (slice_get table.indexes key.number)
 
 -- the key is one of the table of this name, and every row that meets all conditions is at it
 abbrev pub IsKeyOf : List Condition → List ℕ → Table → IndexKey → Type 0
-IsKeyOf conditions name table key = (key.table ≡ name) × ((row : LineKey × Row) → meets_all conditions row ≡ true → stands_in name table row.1 key ≡ true)
+IsKeyOf conditions name table key = (key.table ≡ name) × ((row : LineKey × Row) → meets_all conditions row ≡ true → is_at_key name table row.1 key ≡ true)
 
 -- ---- rows that include them
 
@@ -55,7 +55,7 @@ AreIdsOf conditions rows table ids = (id : Uuid) (row : Row) → get rows (table
 
 -- the rows of these identifiers that exist in the table of this name
 abbrev pub rows_of_ids : Database → List ℕ → List Uuid → List (LineKey × Row)
-rows_of_ids rows table ids = flat_map (λ id. option_to_list (with_key (table, id) (get rows (table, id)))) ids
+rows_of_ids rows table ids = flat_map (λ id. option_to_list (entry_if_found (table, id) (get rows (table, id)))) ids
 
 -- if there are indexes, they are those of the rows, and no two of the rows are equal in one
 abbrev pub AreIndexesIf : Database → Option Indexed → Type 0

@@ -36,8 +36,8 @@ has_columns columns None = false
 has_columns columns (Some row) = same_columns (entries row.columns) (entries columns)
 
 -- what is at a key, with the key
-abbrev pub with_key : {K X : Type 0} → K → Option X → Option (K × X)
-with_key key found = option_map (λ x. (key, x)) found
+abbrev pub entry_if_found : {K X : Type 0} → K → Option X → Option (K × X)
+entry_if_found key found = option_map (λ x. (key, x)) found
 
 -- ---- the rows that meet conditions
 
@@ -61,6 +61,6 @@ place order key (Some row) rows = put order key row rows
 place order key None rows = where_key order (λ other. not (eq_by_cmp order key other)) rows
 
 -- the rows after these changes, applied first to last
-abbrev pub placed : {K : Type 0} → (K → K → Ordering) → List (K × Option Row) → List (K × Row) → List (K × Row)
-placed order [] rows = rows
-placed order (change ∷ changes) rows = placed order changes (place order change.0 change.1 rows)
+abbrev pub place_each : {K : Type 0} → (K → K → Ordering) → List (K × Option Row) → List (K × Row) → List (K × Row)
+place_each order [] rows = rows
+place_each order (change ∷ changes) rows = place_each order changes (place order change.0 change.1 rows)

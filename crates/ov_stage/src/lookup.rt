@@ -4,7 +4,7 @@ ghost use Rattle.std.specs.List.{flat_map};
 ghost use Rattle.ov_db.specs.Changing.{applied};
 ghost use Rattle.ov_rows.specs.Lending.{lent_row, lent_row_of};
 ghost use Rattle.ov_stage.specs.Asked.{rows_of_ids};
-ghost use Rattle.ov_stage.specs.Staging.{with_key};
+ghost use Rattle.ov_stage.specs.Staging.{entry_if_found};
 
 use ov_db::Delta;
 use ov_rows::{Row, RowId, RowKey, RowView, Rows, TableRows};
@@ -13,7 +13,7 @@ use uuid::Uuid;
 
 /// The row of this identifier in a table.
 fn row_in<'a>(table: &'a TableRows, id: Uuid) -> Option<RowView<'a>>
-    ensures { option_map lent_row result ≡ with_key id (get table.now id) }
+    ensures { option_map lent_row result ≡ entry_if_found id (get table.now id) }
 {
     match table.map().get_key_value(&RowId::new(id)) {
         Some((id, row)) => Some(RowView {
@@ -26,7 +26,8 @@ fn row_in<'a>(table: &'a TableRows, id: Uuid) -> Option<RowView<'a>>
 
 /// The row of this key.
 fn row_before<'a>(rows: &'a Rows, key: &RowKey) -> Option<RowView<'a>>
-    ensures { option_map (lent_row_of key.now.0) result ≡ with_key key.now (get rows.now key.now) }
+    ensures { option_map (lent_row_of key.now.0) result
+        ≡ entry_if_found key.now (get rows.now key.now) }
 {
     match rows.of_table(key.table()) {
         Some(table) => row_in(table, key.id()),
@@ -36,7 +37,7 @@ fn row_before<'a>(rows: &'a Rows, key: &RowKey) -> Option<RowView<'a>>
 
 /// The change of this key, with its identifier.
 fn change_at<'a>(delta: &'a Delta, key: &RowKey) -> Option<(&'a Uuid, &'a Option<Row>)>
-    ensures { with_key key.now.1 (get delta.now key.now)
+    ensures { entry_if_found key.now.1 (get delta.now key.now)
         ≡ option_map (λ c. (c.0.now, c.1.now)) result }
 {
     match delta.map().get_key_value(key) {
@@ -48,7 +49,7 @@ fn change_at<'a>(delta: &'a Delta, key: &RowKey) -> Option<(&'a Uuid, &'a Option
 /// The row of this key after the changes. Looks at no other row.
 pub(crate) fn row_after<'a>(rows: &'a Rows, delta: &'a Delta, key: &RowKey) -> Option<RowView<'a>>
     ensures { option_map (lent_row_of key.now.0) result
-        ≡ with_key key.now (get (applied delta.now rows.now) key.now) }
+        ≡ entry_if_found key.now (get (applied delta.now rows.now) key.now) }
 {
     match change_at(delta, key) {
         Some((id, Some(row))) => Some(RowView { id, row }),
@@ -64,7 +65,7 @@ fn listed_at<'a>(
     ids: &[Uuid],
 ) -> Result<Vec<RowView<'a>>, AllocError>
     ensures { IfOk result (λ rows. map lent_row rows.items
-        ≡ flat_map (λ id. option_to_list (with_key id (get table.now id))) ids.now) }
+        ≡ flat_map (λ id. option_to_list (entry_if_found id (get table.now id))) ids.now) }
 {
     let mut rows = Vec::with_capacity(alloc, ids.len())?;
     for id in ids {

@@ -6,7 +6,7 @@ ghost use Rattle.ov_rows.specs.Nested.{id_cmp};
 ghost use Rattle.std.specs.Str.{bytes_eq};
 ghost use Rattle.ov_specs.specs.rows.Lines.{line_cmp};
 ghost use Rattle.ov_stage.specs.Asked.{changes_of, rows_after};
-ghost use Rattle.ov_stage.specs.Staging.{row_made, placed};
+ghost use Rattle.ov_stage.specs.Staging.{row_made, place_each};
 
 use ov_db::Delta;
 use ov_rows::{Row, RowView, Rows, TableRows};
@@ -99,7 +99,7 @@ fn merged<'a>(
     requires rows { T (is_sorted id_cmp (map lent_row rows.now)) }
     requires changes { T (is_sorted id_cmp (map (λ c. (c.0.now, c.1.now)) changes.now)) }
     ensures { IfOk result (λ merged. map lent_row merged.items
-        ≡ placed id_cmp (map (λ c. (c.0.now, c.1.now)) changes.now) (map lent_row rows.now)) }
+        ≡ place_each id_cmp (map (λ c. (c.0.now, c.1.now)) changes.now) (map lent_row rows.now)) }
 {
     let mut merged = Vec::with_capacity(alloc, rows.len())?;
     let mut i = 0;

@@ -13,7 +13,7 @@ ghost use Rattle.ov_specs.specs.rows.Version.{row_now};
 ghost use Rattle.std.specs.Str.{bytes_eq};
 ghost use Rattle.ov_stage.specs.Apart.{AreToldApart};
 ghost use Rattle.ov_stage.specs.Asked.{Ascend, AreIdsOf};
-ghost use Rattle.ov_stage.specs.Staging.{Differs, with_key};
+ghost use Rattle.ov_stage.specs.Staging.{Differs, entry_if_found};
 
 use crate::conditions::{meeting, only_id};
 use crate::former::is_former;
@@ -198,7 +198,7 @@ impl<'a> Stage<'a> {
     /// The current row of this identifier in the table of this name, if there is one.
     fn rows_at(&self, alloc: Global, table: &str, id: Uuid) -> Result<Vec<RowView<'_>>, AllocError>
         ensures { IfOk result (λ rows. map (lent_row_of table.now) rows.items
-            ≡ option_to_list (with_key (table.now, id) (get self.now.now (table.now, id)))) }
+            ≡ option_to_list (entry_if_found (table.now, id) (get self.now.now (table.now, id)))) }
     {
         let key = RowKey::new(alloc, table, id)?;
         let mut rows = Vec::new(alloc);

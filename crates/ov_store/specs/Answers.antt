@@ -1,8 +1,8 @@
 -- What the system, the allocator and SQLite answered, where no contract of theirs says which answer they give.
 --
--- The meaning of `WasAnswered` is closed: a proof learns from a contract alone that there was such an answer. `told` begins
+-- The meaning of `WasAnswered` is closed: a proof learns from a contract alone that there was such an answer. `was_answered` begins
 -- it, in the proof of the function that makes the call and of what that call returned, named as its result; the lemmas of
--- `AnswerLemmas` take that result. No other proof cites `told`, so what rests on an answer rests on a call that gave it.
+-- `AnswerLemmas` take that result. No other proof cites `was_answered`, so what rests on an answer rests on a call that gave it.
 use Rattle.std.specs.Prelude.{ℕ, List}
 use Rattle.sqlite_wal.specs.Recovery.{Image}
 
@@ -36,6 +36,6 @@ pub WasAnswered : {A : Type 0} → Call → A → Type 0
 WasAnswered call answer = Unit {0}
 
 -- for the proof of the function that made the call
-pub told : {A : Type 0} (call : Call) (answer : A) → WasAnswered call answer
+pub was_answered : {A : Type 0} (call : Call) (answer : A) → WasAnswered call answer
 unfolding WasAnswered
-told call answer = tt
+was_answered call answer = tt

@@ -52,7 +52,7 @@ module _ {S : Type 0} (g : Ghosts S) where
   abbrev pub IsForeign : Connected S → Connected S → Type 0
   IsForeign c left = (¬ HasOurTables c.schema) ⊎ (HasOurTables c.schema × (HasCleanDisk (state g left) → NamesOther (state g c).now))
 
-  -- what is not told by the SQL schema alone is the fault with which the making or the testing of the tables stopped
+  -- what the SQL schema alone does not say is the fault with which the making or the testing of the tables stopped
   abbrev pub IsToldOf : Connected S → KeepFault → Type 0
   IsToldOf c fault =
       ((fault ≡ NotOurs) × (c.schema ≢ no_schema) × (¬ HasOurTables c.schema))

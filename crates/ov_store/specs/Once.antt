@@ -11,10 +11,10 @@ abbrev pub calls_left : {D : Type 0} → FailsOnce D → Option ℕ
 calls_left f = f.calls_left
 
 -- the same after one more call
-abbrev pub after_call : Option ℕ → Option ℕ
-after_call None = None
-after_call (Some zero) = None
-after_call (Some (suc calls)) = Some calls
+abbrev pub after_one_call : Option ℕ → Option ℕ
+after_one_call None = None
+after_one_call (Some zero) = None
+after_one_call (Some (suc calls)) = Some calls
 
 -- it has failed no call
 abbrev pub IsFresh : {D : Type 0} → FailsOnce D → Type 0

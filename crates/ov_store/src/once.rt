@@ -3,7 +3,7 @@
 ghost use Rattle.std.specs.Prelude.{◌≡◌, ◌+◌, ◌↔◌, ◌&&◌, not, false, Some, None, IsErr};
 ghost use Rattle.sqlite_disk.specs.Disk.{CountsFault};
 ghost use Rattle.sqlite_disk.specs.Refusal.{finds_no_room};
-ghost use Rattle.ov_store.specs.Once.{after_call};
+ghost use Rattle.ov_store.specs.Once.{after_one_call};
 
 use sqlite_disk::{Crash, Disk, Tally};
 use std::io;
@@ -53,7 +53,7 @@ impl<D: Disk> FailsOnce<D> {
 /// Counts a call, which fails if none is left before the one that does.
 fn spend(calls_left: &mut Option<u64>, failed: &mut u64) -> io::Result<()>
     ensures fails { IsErr result ↔ (calls_left.old ≡ Some 0) }
-    ensures left { calls_left.new ≡ after_call calls_left.old }
+    ensures left { calls_left.new ≡ after_one_call calls_left.old }
     ensures faults { CountsFault result failed.old failed.new }
     ensures kind { finds_no_room result ≡ false }
 {

@@ -14,7 +14,7 @@ const PAGE: u64 = 4_096;
 /// The fewest pages that stay in memory: 8 MiB, since a small file may grow. It is the kit's own number.
 const LEAST_PAGES: u64 = 2_000;
 
-/// The most pages that stay in memory: 16 MiB. More would make a start over 400,000 rows a tenth faster, since the system has the
+/// The most pages that stay in memory: 16 MiB. More would make a start over 400,000 rows a fifth faster, since the system has the
 /// file in its own cache. An opening takes the memory for all pages at once, and keeps it.
 const MOST_PAGES: u64 = 4_096;
 

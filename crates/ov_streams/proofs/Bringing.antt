@@ -12,7 +12,7 @@ use Rattle.ov_cut.specs.CutterState.{CutterState}
 use Rattle.ov_cut.specs.Reading.{AreRead, ReadsPiece}
 use Rattle.ov_core.specs.Following.{CoreState, Extends}
 use Rattle.ov_streams.specs.Feeding.{EntersPiece, EntersOwn, fed_piece, is_event_of}
-use Rattle.ov_streams.specs.Entering.{EntersMessages, ClosesByEntry, cause_of_fault}
+use Rattle.ov_streams.specs.Entering.{EntersMessages, ClosesByEntry, closing_cause_of}
 use Rattle.ov_streams.proofs.Entering.{by_memory, enters_more, own_more}
 
 module _ {K D : Type 0} (at n : ℕ) (messages : List Message) (old mid : CoreState K D) (all : EntersMessages at n messages old mid) where
@@ -72,7 +72,7 @@ module _ {K D : Type 0} (at n : ℕ) (stream piece : List ℕ) (messages : List 
   }
 
   -- the stream can't be read on
-  pub at_fault : (why : StreamFault) → ReadsPiece stream piece messages (Some why) after → is_open mid.state n ≡ true → (new : CoreState K D) → ClosesByEntry at n (cause_of_fault why) mid new
+  pub at_fault : (why : StreamFault) → ReadsPiece stream piece messages (Some why) after → is_open mid.state n ≡ true → (new : CoreState K D) → ClosesByEntry at n (closing_cause_of why) mid new
       → EntersPiece at (fed_piece n stream piece) old new after
   at_fault Damaged r there new s =
       closes [] (others_of (Some Damaged) r.asks).1 there machine.Damaged new s

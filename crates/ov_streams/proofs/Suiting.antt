@@ -19,7 +19,7 @@ use Rattle.ov_specs.specs.machine.Streams.{Streams, no_streams, with_fed, Feeds,
 use Rattle.ov_specs.proofs.laws.Expanding.{one_more}
 use Rattle.ov_specs.proofs.laws.Turns.{MayClose, turn_open, turn_tick, turn_close_other, turn_take_other}
 use Rattle.ov_laws.proofs.Requests.{not_fed_yet}
-use Rattle.ov_cut.specs.CutterState.{CutterState, StandsFor}
+use Rattle.ov_cut.specs.CutterState.{CutterState, HasCut}
 use Rattle.ov_cut.specs.Reading.{IsFed}
 use Rattle.ov_cut.proofs.Pieces.{fed_none}
 use Rattle.ov_sessions.specs.declared.session.Session.{Session}
@@ -164,15 +164,15 @@ forgotten_closed old cutters is =
 
 -- ---- a session opens
 
-pub first_fed : (stream : List ℕ) (cutter : CutterState) → stream ≡ [] → StandsFor [] [] cutter → IsFed stream cutter
-first_fed stream cutter none stands = subst (λ (l : List ℕ). IsFed l cutter) (sym none) (fed_none cutter stands)
+pub first_fed : (stream : List ℕ) (cutter : CutterState) → stream ≡ [] → HasCut [] [] cutter → IsFed stream cutter
+first_fed stream cutter none cuts = subst (λ (l : List ℕ). IsFed l cutter) (sym none) (fed_none cutter cuts)
 
-module _ {K D : Type 0} (cutter : CutterState) (old : StreamsState K D) (cutters : Cutters) (updates : UpdatesCutter old.core.state.next (Some cutter) old.cutters cutters) (stands : StandsFor [] [] cutter) where
+module _ {K D : Type 0} (cutter : CutterState) (old : StreamsState K D) (cutters : Cutters) (updates : UpdatesCutter old.core.state.next (Some cutter) old.cutters cutters) (cuts : HasCut [] [] cutter) where
   -- the next session has a cutter, which was given nothing
   next_has : (schema : Schema) (database : Database) (list : List streams.StreamEvent) (h : List Entry) (given : ℕ → List (List ℕ)) (s : FollowsEvents schema database list h given old)
       → (m : ℕ) → (m ≢ old.core.state.next → is_open old.core.state m ≡ true) → HasCutter m (s.fed m) cutters
   next_has schema database list h given s m other = has_updated old.core.state.next m (s.fed m) cutter old.cutters cutters updates
-      (λ is. first_fed (s.fed m) cutter (not_fed_yet schema database _ h old.core.state s.fed m s.expands (omega (arith, is))) stands)
+      (λ is. first_fed (s.fed m) cutter (not_fed_yet schema database _ h old.core.state s.fed m s.expands (omega (arith, is))) cuts)
       (λ ne. s.cutters m (other ne))
 
   -- it is not opened

@@ -42,6 +42,6 @@ pub record EntersMessages {K D : Type 0} (at n : ℕ) (messages : List Message) 
   pub ends : is_open new.state n ≡ false → (others : List Message) (damaged : Bool) → Feeds (delivered at n) old.state (messages ++ others) damaged entries new.state
 
 -- why a session is closed if its stream can't be read on
-abbrev pub cause_of_fault : StreamFault → machine.Cause
-cause_of_fault Damaged = machine.Damaged
-cause_of_fault Memory = machine.Memory
+abbrev pub closing_cause_of : StreamFault → machine.Cause
+closing_cause_of Damaged = machine.Damaged
+closing_cause_of Memory = machine.Memory

@@ -4,7 +4,7 @@ ghost use Rattle.ov_history.specs.Entries.{cause_view};
 ghost use Rattle.ov_cut.specs.Reading.{IsFed};
 ghost use Rattle.ov_streams.specs.Feeding.{EntersPiece, EntersOwn, fed_piece};
 ghost use Rattle.ov_streams.specs.Entering.{EntersMessages, EntersMessage, ClosesByEntry};
-ghost use Rattle.ov_streams.specs.Entering.{cause_of_fault};
+ghost use Rattle.ov_streams.specs.Entering.{closing_cause_of};
 
 use ov_core::{Cause, Core, Event, Session};
 use ov_cut::{Cutter, PieceRead, StreamFault};
@@ -47,7 +47,7 @@ pub fn feed_session<K: Keeper + Drop, D: Draws + Drop>(
 
 /// Why a session is closed if its stream can't be read on.
 fn cause_of(fault: StreamFault) -> Cause
-    ensures { cause_view result ≡ cause_of_fault fault }
+    ensures { cause_view result ≡ closing_cause_of fault }
 {
     match fault {
         StreamFault::Damaged => Cause::Damaged,

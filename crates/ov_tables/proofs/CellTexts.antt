@@ -37,7 +37,7 @@ use Rattle.sqlite_resolve.specs.Program.{program, query}
 use Rattle.sqlite_resolve.specs.Scope.{Context, column}
 use Rattle.sqlite_resolve.specs.Compare.{affinity_of}
 use Rattle.sqlite_resolve.specs.declared.compare.Affinity.TheVariants as affinity
-use Rattle.sqlite_resolve.specs.Write.{updated, deleted, over}
+use Rattle.sqlite_resolve.specs.Write.{updated, deleted}
 use Rattle.ov_tables.specs.Tables.{cell_table, cell_insert_text, cell_select_text, cell_clear_text, cell_delete_text, cell_update_text, cells_of_text}
 use Rattle.ov_tables.proofs.TableLemmas.{Stands}
 use Rattle.ov_tables.proofs.Statements.{cell_insert_parsed, cell_select_parsed, cell_clear_parsed, cell_delete_parsed, cell_update_parsed, cell_insert_first, cell_select_first, cell_clear_first, cell_delete_first, cell_update_first, cell_selects, numbers, changes, runs, named, shows, source_of, core_of, selection, does, plain_carried, free_carried, within, cell_insert_terms, cell_update_terms, key_test, key_terms, cell_key_test, cell_key_terms, core_where, selection_of, cells_of_parsed, cells_of_first, key_selects}

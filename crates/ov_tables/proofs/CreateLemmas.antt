@@ -14,7 +14,7 @@ use Rattle.sqlite.specs.State.{State, Writes, Executes}
 use Rattle.sqlite.proofs.Callers.{IsPlain, command_of, statement_of, runs_as}
 use Rattle.sqlite_rules.specs.Lists.{Has}
 use Rattle.sqlite_rules.proofs.ListLemmas.{all_has, all_from, has_right}
-use Rattle.ov_tables.specs.Tables.{meta_table, head_table, cell_table, tree_of, with_row_tables, HasFreeName, HasFreeNames, HasTable, create_meta, create_head, create_cell}
+use Rattle.ov_tables.specs.Tables.{meta_table, head_table, cell_table, tree_number, with_row_tables, HasFreeName, HasFreeNames, HasTable, create_meta, create_head, create_cell}
 use Rattle.ov_tables.specs.Format.{rows_of}
 use Rattle.ov_tables.specs.Making.{Creates, CreatesRows, IsBare, MakesOurs, Fills, MakesFilled}
 use Rattle.ov_tables.proofs.TableLemmas.{found_has, tree_is}
@@ -183,6 +183,6 @@ filled text old mid new m f =
       others = all_from _ schema.tables (λ t h.
           let later = old_table (created schema (meta_table 0)) (codes "head") _ (1 ∷ 2 ∷ []) t (old_table schema (codes "meta") _ (1 ∷ []) t h) in
           let last = subst (λ (s : Schema). Has s.tables t) (sym m.schema) (old_table (created (created schema (meta_table 0)) (head_table 0)) (codes "cell") _ (1 ∷ 2 ∷ 3 ∷ []) t later) in
-          let apart = apart_from (tree_of mid.now.schema (codes "meta")) t.tree (λ e. absurd (omega (arith, tree_below schema t h, e, m.meta_tree))) in
+          let apart = apart_from (tree_number mid.now.schema (codes "meta")) t.tree (λ e. absurd (omega (arith, tree_below schema t h, e, m.meta_tree))) in
           all_has _ mid.now.schema.tables t f.others.tables last apart ∙ all_has _ schema.tables t m.others h);
     }

@@ -19,7 +19,7 @@ use Rattle.sqlite_resolve.specs.declared.error.CompileError.{CompileError}
 use Rattle.sqlite_resolve.specs.declared.error.CompileError.TheVariants.{NoSuchTable}
 use Rattle.sqlite_resolve.specs.Compile.{compiled, planned, meaning, returning, with_command}
 use Rattle.sqlite_resolve.specs.Lowering.{Checked, and_then}
-use Rattle.ov_tables.specs.Tables.{HasTable, cell_table, tree_of, cell_select_text}
+use Rattle.ov_tables.specs.Tables.{HasTable, cell_table, tree_number, cell_select_text}
 use Rattle.ov_tables.specs.Format.{rows_of_cell}
 use Rattle.ov_tables.specs.Querying.{IsAsBefore, row_selected}
 use Rattle.ov_tables.proofs.Statements.{cell_select_parsed, cell_select_first}
@@ -94,7 +94,7 @@ unchanged_now : (s : State) → IsTrue s.is_open → IsUnchanged s s
 unchanged_now s up = (record { was_open = up; is_open = up; now_is = refl; committed_is = refl; mode = refl }, record { changes = refl; last_rowid = refl }, refl)
 
 abbrev HasCells : Database → Type 0
-HasCells db = HasTable db.schema (cell_table (tree_of db.schema (codes "cell"))) × IsDatabase db
+HasCells db = HasTable db.schema (cell_table (tree_number db.schema (codes "cell"))) × IsDatabase db
 
 module _ (old at : State) (has : HasCells old.now) (same : IsUnchanged old at) where
   there : HasCells at.now
@@ -104,14 +104,14 @@ module _ (old at : State) (has : HasCells old.now) (same : IsUnchanged old at) w
   pub all_given : (after : State) (rows : List Row) → Shown cell_select_text [] at after rows → IsPermutation (map row_selected (rows_of_cell old.now.trees)) rows
   all_given after rows h =
       let schema = at.now.schema in
-      let tree = tree_of schema (codes "cell") in
+      let tree = tree_number schema (codes "cell") in
       subst (λ (d : Database). IsPermutation (map row_selected (rows_of_cell d.trees)) rows) same.0.now_is
       (selects at after (cell_table tree) cell_select_text _ _ row_selected cell_select_parsed there.0 there.1 (λ k it. cell_select_is schema k tree it) (λ k it. cell_select_listed schema k tree it) (λ r. refl) rows h)
 
   ends : (c : Compiled) (db : Database) (params : Row) → understood at.now.schema cell_select_text ≡ Ok c → EndsIn c.command db params
   ends c db params is =
       let schema = at.now.schema in
-      let tree = tree_of schema (codes "cell") in
+      let tree = tree_number schema (codes "cell") in
       let stood = stands_in at.now (cell_table tree) there.0 there.1 in
       go _ (sym (cell_select_is schema stood.0 tree stood.1) ∙ is) tt
     where

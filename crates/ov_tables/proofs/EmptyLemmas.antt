@@ -14,7 +14,7 @@ use Rattle.sqlite_trees.specs.Tree.{Trees}
 use Rattle.sqlite_trees.proofs.ListLemmas.{all_weaker}
 use Rattle.sqlite_rules.specs.Lists.{Has}
 use Rattle.sqlite_rules.proofs.ListLemmas.{all_has, all_from}
-use Rattle.ov_tables.specs.Tables.{meta_table, line_table, head_table, cell_table, table_of, tree_of, cell_trees, line_trees, HasTable, HasFreeName, HasLineTables, HasCellTables}
+use Rattle.ov_tables.specs.Tables.{meta_table, line_table, head_table, cell_table, table_of, tree_number, cell_trees, line_trees, HasTable, HasFreeName, HasLineTables, HasCellTables}
 use Rattle.ov_tables.specs.Format.{HasNumber, IsMeta, IsLine, IsHead, IsCell, rows_of}
 use Rattle.ov_tables.specs.Holding.{HoldsLines, HoldsCells, KeepsOthers, is_among}
 use Rattle.ov_tables.specs.Emptying.{Clears, Empties}
@@ -33,7 +33,7 @@ use Rattle.ov_tables.proofs.CreateLemmas.{bare_rows, meta_last, head_last, cell_
 
 module _ (old new : State) (table : Table) (sql : List ℕ) (parsed : Parsed) (has : HasTable old.now.schema table) (sound : IsDatabase old.now)
     (known : (at : ℕ) → Stands old.now.schema table at → understood old.now.schema sql ≡ Ok (does parsed (Delete at (runs (numbers [] table.tree))))) (all : AllByRecursion HasNumber (rows_of table.name old.now.trees)) where
-  pub clears : (count : ℕ) → Executes sql [] old new (Ok count) → IsTrue new.in_transaction → IsTrue old.is_open → IsTrue new.is_open → tree_of old.now.schema table.name ≡ table.tree → Clears table.name old new
+  pub clears : (count : ℕ) → Executes sql [] old new (Ok count) → IsTrue new.in_transaction → IsTrue old.is_open → IsTrue new.is_open → tree_number old.now.schema table.name ≡ table.tree → Clears table.name old new
   clears count ran mode was up tree =
       let d = deletes old new table sql [] [] parsed has sound known count ran in
       record {
@@ -86,8 +86,8 @@ module _ (m h c t : ℕ) (free : is_among (m ∷ h ∷ c ∷ []) t ≡ false) wh
 pub not_both : (schema : Schema) → HasLineTables schema → HasCellTables schema → ⊥
 not_both schema lines cells = let none : table_of schema (codes "head") ≡ None = none_found _ 0 schema.tables (is_free schema (codes "head") lines.head.free).table in let clash = sym none ∙ cells.head.named in absurd cc
 
-pub meta_not_line : (schema : Schema) → HasLineTables schema → tree_of schema (codes "meta") ≢ tree_of schema (codes "line")
-meta_not_line schema has = trees_apart schema (meta_table (tree_of schema (codes "meta"))) (line_table (tree_of schema (codes "line"))) has.meta has.line (λ e. absurd (omega (arith, ap (λ l. get_or l 0 0) e)))
+pub meta_not_line : (schema : Schema) → HasLineTables schema → tree_number schema (codes "meta") ≢ tree_number schema (codes "line")
+meta_not_line schema has = trees_apart schema (meta_table (tree_number schema (codes "meta"))) (line_table (tree_number schema (codes "line"))) has.meta has.line (λ e. absurd (omega (arith, ap (λ l. get_or l 0 0) e)))
 
 -- ---- from format 2
 
@@ -98,14 +98,14 @@ module _ (text : List ℕ) (old a b new : State) (stored : HoldsCells text old.n
   has : HasCellTables first
   has = stored.format.schema
 
-  cells_first : KeepsOthers (tree_of first (codes "cell") ∷ []) first old.now.trees a.now.trees
+  cells_first : KeepsOthers (tree_number first (codes "cell") ∷ []) first old.now.trees a.now.trees
   cells_first = one.others
 
-  heads_then : KeepsOthers (tree_of first (codes "head") ∷ []) first a.now.trees b.now.trees
-  heads_then = subst (λ s. KeepsOthers (tree_of s (codes "head") ∷ []) s a.now.trees b.now.trees) one.schema two.others
+  heads_then : KeepsOthers (tree_number first (codes "head") ∷ []) first a.now.trees b.now.trees
+  heads_then = subst (λ s. KeepsOthers (tree_number s (codes "head") ∷ []) s a.now.trees b.now.trees) one.schema two.others
 
-  meta_then : KeepsOthers (tree_of first (codes "meta") ∷ []) first b.now.trees new.now.trees
-  meta_then = subst (λ s. KeepsOthers (tree_of s (codes "meta") ∷ []) s b.now.trees new.now.trees) (two.schema ∙ one.schema) three.others
+  meta_then : KeepsOthers (tree_number first (codes "meta") ∷ []) first b.now.trees new.now.trees
+  meta_then = subst (λ s. KeepsOthers (tree_number s (codes "meta") ∷ []) s b.now.trees new.now.trees) (two.schema ∙ one.schema) three.others
 
   all_kept : KeepsOthers (cell_trees first) first old.now.trees new.now.trees
   all_kept =
@@ -119,8 +119,8 @@ module _ (text : List ℕ) (old a b new : State) (stored : HoldsCells text old.n
       let same = three.schema ∙ two.schema ∙ one.schema in
       let at_a = subst HasCellTables (sym one.schema) has in
       let at_b = subst HasCellTables (sym (two.schema ∙ one.schema)) has in
-      let head_touched = touches_of a.now b.now (head_table (tree_of a.now.schema (codes "head"))) at_a.head one.sound two.others two.schema two.sound in
-      let meta_touched = touches_of b.now new.now (meta_table (tree_of b.now.schema (codes "meta"))) at_b.meta two.sound three.others three.schema three.sound in
+      let head_touched = touches_of a.now b.now (head_table (tree_number a.now.schema (codes "head"))) at_a.head one.sound two.others two.schema two.sound in
+      let meta_touched = touches_of b.now new.now (meta_table (tree_number b.now.schema (codes "meta"))) at_b.meta two.sound three.others three.schema three.sound in
       record {
         mode = three.mode;
         was_open = one.was_open;
@@ -128,9 +128,9 @@ module _ (text : List ℕ) (old a b new : State) (stored : HoldsCells text old.n
         bare = record {
           tables = subst HasCellTables (sym same) has;
           meta = three.rows;
-          head = rows_beside b.now new.now _ meta_touched (head_table (tree_of b.now.schema (codes "head"))) at_b.head two.sound (head_not_meta b.now.schema at_b) ∙ two.rows;
-          cell = rows_beside b.now new.now _ meta_touched (cell_table (tree_of b.now.schema (codes "cell"))) at_b.cell two.sound (cell_not_meta b.now.schema at_b)
-              ∙ rows_beside a.now b.now _ head_touched (cell_table (tree_of a.now.schema (codes "cell"))) at_a.cell one.sound (cell_not_head a.now.schema at_a) ∙ one.rows;
+          head = rows_beside b.now new.now _ meta_touched (head_table (tree_number b.now.schema (codes "head"))) at_b.head two.sound (head_not_meta b.now.schema at_b) ∙ two.rows;
+          cell = rows_beside b.now new.now _ meta_touched (cell_table (tree_number b.now.schema (codes "cell"))) at_b.cell two.sound (cell_not_meta b.now.schema at_b)
+              ∙ rows_beside a.now b.now _ head_touched (cell_table (tree_number a.now.schema (codes "cell"))) at_a.cell one.sound (cell_not_head a.now.schema at_a) ∙ one.rows;
           sound = three.sound;
         };
         rest = λ next later. (
@@ -152,7 +152,7 @@ module _ (text : List ℕ) (old a b new : State) (stored : HoldsLines text old.n
   same = two.schema ∙ one.schema
 
   abbrev m : ℕ
-  m = tree_of before (codes "meta")
+  m = tree_number before (codes "meta")
 
   meta_here : HasTable b.now.schema (meta_table m)
   meta_here = subst (λ s. HasTable s (meta_table m)) (sym same) lines.meta
@@ -172,13 +172,13 @@ module _ (text : List ℕ) (old a b new : State) (stored : HoldsLines text old.n
   abbrev last : Schema
   last = new.now.schema
 
-  m_is : tree_of last (codes "meta") ≡ m
+  m_is : tree_number last (codes "meta") ≡ m
   m_is = tree_is last (meta_table m) (meta_last b new m meta_here head_room cell_room two.sound c)
 
-  h_is : tree_of last (codes "head") ≡ next_tree b.now.schema
+  h_is : tree_number last (codes "head") ≡ next_tree b.now.schema
   h_is = tree_is last (head_table (next_tree b.now.schema)) (head_last b new m meta_here head_room cell_room two.sound c)
 
-  c_is : tree_of last (codes "cell") ≡ next_tree (created b.now.schema (head_table 0))
+  c_is : tree_number last (codes "cell") ≡ next_tree (created b.now.schema (head_table 0))
   c_is = tree_is last (cell_table (next_tree (created b.now.schema (head_table 0)))) (cell_last b new m meta_here head_room cell_room two.sound c)
 
   other_row : (next : Trees) → KeepsOthers (cell_trees last) last new.now.trees next → (t : Table) → Has before.tables t → is_among (line_trees before) t.tree ≡ false → next t.tree ≡ old.now.trees t.tree
@@ -187,13 +187,13 @@ module _ (text : List ℕ) (old a b new : State) (stored : HoldsLines text old.n
       let in_b = subst (λ (s : Schema). Has s.tables t) (sym same) here in
       let in_head = old_table b.now.schema (codes "head") _ (1 ∷ 2 ∷ []) t in_b in
       let in_last = subst (λ (s : Schema). Has s.tables t) (sym c.schema) (old_table (created b.now.schema (head_table 0)) (codes "cell") _ (1 ∷ 2 ∷ 3 ∷ []) t in_head) in
-      let not_meta : (t.tree == tree_of last (codes "meta")) ≡ false = ap (λ n. t.tree == n) m_is ∙ parts.0 in
-      let not_head : (t.tree == tree_of last (codes "head")) ≡ false = ne_eqb t.tree _ (λ e. absurd (omega (arith, tree_below b.now.schema t in_b, e, h_is))) in
-      let not_cell : (t.tree == tree_of last (codes "cell")) ≡ false = ne_eqb t.tree _ (λ e. absurd (omega (arith, tree_below (created b.now.schema (head_table 0)) t in_head, e, c_is))) in
+      let not_meta : (t.tree == tree_number last (codes "meta")) ≡ false = ap (λ n. t.tree == n) m_is ∙ parts.0 in
+      let not_head : (t.tree == tree_number last (codes "head")) ≡ false = ne_eqb t.tree _ (λ e. absurd (omega (arith, tree_below b.now.schema t in_b, e, h_is))) in
+      let not_cell : (t.tree == tree_number last (codes "cell")) ≡ false = ne_eqb t.tree _ (λ e. absurd (omega (arith, tree_below (created b.now.schema (head_table 0)) t in_head, e, c_is))) in
       let step_last = all_has _ last.tables t later.tables in_last (or_from _ _ not_meta (or_from _ _ not_head (or_from _ _ not_cell refl))) in
       let step_made = all_has _ b.now.schema.tables t c.others in_b in
       let in_a = subst (λ (s : Schema). Has s.tables t) (sym one.schema) here in
-      let step_meta = all_has _ a.now.schema.tables t two.others.tables in_a (or_from _ _ (ap (λ s. t.tree == tree_of s (codes "meta")) one.schema ∙ parts.0) refl) in
+      let step_meta = all_has _ a.now.schema.tables t two.others.tables in_a (or_from _ _ (ap (λ s. t.tree == tree_number s (codes "meta")) one.schema ∙ parts.0) refl) in
       let step_line = all_has _ before.tables t one.others.tables here parts.1 in
       step_last ∙ step_made ∙ step_meta ∙ step_line
 

@@ -37,7 +37,7 @@ use Rattle.sqlite_resolve.specs.Program.{program, query}
 use Rattle.sqlite_resolve.specs.Scope.{Context, column}
 use Rattle.sqlite_resolve.specs.Compare.{affinity_of}
 use Rattle.sqlite_resolve.specs.declared.compare.Affinity.TheVariants as affinity
-use Rattle.sqlite_resolve.specs.Write.{updated, deleted, over}
+use Rattle.sqlite_resolve.specs.Write.{updated, deleted}
 use Rattle.ov_tables.specs.Tables.{head_table, head_insert_text, head_select_text, head_clear_text, head_delete_text, head_update_text}
 use Rattle.ov_tables.proofs.TableLemmas.{Stands}
 use Rattle.ov_tables.proofs.Statements.{head_insert_parsed, head_select_parsed, head_clear_parsed, head_delete_parsed, head_update_parsed, head_insert_first, head_select_first, head_clear_first, head_delete_first, head_update_first, head_selects, numbers, changes, runs, named, shows, source_of, core_of, selection, does, plain_carried, free_carried, within, head_insert_terms, head_update_terms, key_test, key_terms}

@@ -31,7 +31,7 @@ use Rattle.sqlite.specs.Collation.{Collation}
 use Rattle.std.proofs.Common.{◌-◌, subst, sym}
 use Rattle.sqlite_resolve.specs.Program.{program, query}
 use Rattle.sqlite_resolve.specs.Scope.{Context, column}
-use Rattle.sqlite_resolve.specs.Write.{deleted, over}
+use Rattle.sqlite_resolve.specs.Write.{deleted}
 use Rattle.ov_tables.specs.Tables.{line_table, line_select_text, line_clear_text}
 use Rattle.ov_tables.proofs.TableLemmas.{Stands}
 use Rattle.ov_tables.proofs.Statements.{line_select_parsed, line_clear_parsed, line_select_first, line_clear_first, line_selects, numbers, runs, named, shows, source_of, core_of, selection, does, plain_carried, free_carried, within}

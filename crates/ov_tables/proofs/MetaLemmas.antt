@@ -12,7 +12,7 @@ use Rattle.sqlite_rules.specs.Edit.{are_fresh}
 use Rattle.sqlite_trees.specs.Tree.{put_row}
 use Rattle.sqlite.specs.Effect.{Database, IsDatabase}
 use Rattle.sqlite.specs.State.{State, Executes}
-use Rattle.ov_tables.specs.Tables.{meta_table, head_table, cell_table, tree_of, HasCellTables, meta_insert_text}
+use Rattle.ov_tables.specs.Tables.{meta_table, head_table, cell_table, tree_number, HasCellTables, meta_insert_text}
 use Rattle.ov_tables.specs.Format.{IsMeta, IsFormatRow, IsSchemaRow, IsHead, IsCell, head_of, cell_of, rows_of_meta, rows_of_head, rows_of_cell}
 use Rattle.ov_tables.specs.Holding.{KeepsOthers, HoldsCells, IsNumbered}
 use Rattle.ov_tables.specs.Making.{meta_row, AddsMeta, IsBare, Fills}
@@ -34,13 +34,13 @@ first_among n more = rw (itself n) refl
 
 module _ (schema : Schema) (has : HasCellTables schema) where
   abbrev m : ℕ
-  m = tree_of schema (codes "meta")
+  m = tree_number schema (codes "meta")
 
   abbrev h : ℕ
-  h = tree_of schema (codes "head")
+  h = tree_number schema (codes "head")
 
   abbrev c : ℕ
-  c = tree_of schema (codes "cell")
+  c = tree_number schema (codes "cell")
 
   pub head_not_meta : h ≢ m
   head_not_meta = trees_apart schema (head_table h) (meta_table m) has.head has.meta (λ e. absurd (omega (arith, ap (λ l. get_or l 0 0) e)))
@@ -66,7 +66,7 @@ pub adds_meta : (old new : State) (k v : List ℕ) (count : ℕ) → HasCellTabl
     → IsTrue new.in_transaction → IsTrue old.is_open → IsTrue new.is_open → AddsMeta k v old new
 adds_meta old new k v count has sound ran mode was up =
     let schema = old.now.schema in
-    let m = tree_of schema (codes "meta") in
+    let m = tree_number schema (codes "meta") in
     let d = inserts old new (codes "meta") m _ (1 ∷ []) meta_insert_text meta_insert_terms 3 (Text k ∷ Blob v ∷ []) (meta_row k v) meta_insert_parsed has.meta sound (λ at it. meta_insert_is schema at m it) (meta_adds m k v) count ran in
     record {
       mode = mode;
@@ -76,8 +76,8 @@ adds_meta old new k v count has sound ran mode was up =
       number = d.number;
       rows = d.rows;
       fresh = d.fresh;
-      head = rows_beside old.now new.now (meta_table m) d.only (head_table (tree_of schema (codes "head"))) has.head sound (head_not_meta schema has);
-      cell = rows_beside old.now new.now (meta_table m) d.only (cell_table (tree_of schema (codes "cell"))) has.cell sound (cell_not_meta schema has);
+      head = rows_beside old.now new.now (meta_table m) d.only (head_table (tree_number schema (codes "head"))) has.head sound (head_not_meta schema has);
+      cell = rows_beside old.now new.now (meta_table m) d.only (cell_table (tree_number schema (codes "cell"))) has.cell sound (cell_not_meta schema has);
       others = others_kept old.now new.now (meta_table m) d.only (m ∷ []) (first_among m []);
       sound = d.only.sound;
     }
@@ -129,5 +129,5 @@ fills text old mid new utf8 bare one two =
       stored = no_rows text new.now (subst HasCellTables (sym same) bare.tables) meta head cell two.sound;
       no_head = head;
       no_cell = cell;
-      others = others_then _ schema old.now.trees mid.now.trees new.now.trees one.others (subst (λ s. KeepsOthers (tree_of s (codes "meta") ∷ []) s mid.now.trees new.now.trees) one.schema two.others);
+      others = others_then _ schema old.now.trees mid.now.trees new.now.trees one.others (subst (λ s. KeepsOthers (tree_number s (codes "meta") ∷ []) s mid.now.trees new.now.trees) one.schema two.others);
     }

@@ -35,7 +35,7 @@ use Rattle.sqlite.specs.Collation.{Collation}
 use Rattle.std.proofs.Common.{◌-◌, subst, sym}
 use Rattle.sqlite_resolve.specs.Program.{program, query}
 use Rattle.sqlite_resolve.specs.Scope.{Context, column}
-use Rattle.sqlite_resolve.specs.Write.{deleted, over}
+use Rattle.sqlite_resolve.specs.Write.{deleted}
 use Rattle.ov_tables.specs.Tables.{meta_table, meta_insert_text, meta_select_text, meta_clear_text}
 use Rattle.ov_tables.proofs.TableLemmas.{Stands}
 use Rattle.ov_tables.proofs.Statements.{meta_insert_parsed, meta_select_parsed, meta_clear_parsed, meta_insert_first, meta_select_first, meta_clear_first, meta_selects, numbers, runs, named, shows, source_of, core_of, selection, does, plain_carried, free_carried, within, meta_insert_terms}

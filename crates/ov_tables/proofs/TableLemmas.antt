@@ -1,5 +1,5 @@
 -- Where a table of ours stands in a schema, and that no change of its rows sets off an action of a foreign key.
-use Rattle.std.proofs.Common.{◌≡◌, ◌≢◌, ◌<◌, ◌+◌, ◌^◌, ℕ, zero, suc, List, [], ◌∷◌, ◌++◌, length, find, Bool, true, false, not, ◌&&◌, ◌||◌, ◌==◌, nat_lt, nat_le, slice_get, cond, Option, Some, None, IfSome, option_and_then, option_map, refl, sym, ap, ap₂, subst, ◌∙◌, arith, Ok, inl, inr}
+use Rattle.std.proofs.Common.{◌≡◌, ◌≢◌, ◌<◌, ◌+◌, ◌^◌, ℕ, suc, List, [], ◌∷◌, ◌++◌, length, find, Bool, true, false, not, ◌&&◌, ◌||◌, ◌==◌, nat_lt, nat_le, slice_get, cond, Option, Some, None, IfSome, option_and_then, option_map, refl, sym, ap, ap₂, subst, ◌∙◌, arith, Ok, inl, inr}
 use Rattle.std.specs.List.{list_any, list_all, flat_map, filter_map, position_from}
 use Rattle.std.proofs.lemmas.Bool.Decides.{nat_tests}
 use Rattle.sqlite.specs.Table.{Table}
@@ -15,7 +15,7 @@ use Rattle.sqlite_rules.specs.Edit.{Edit, taken_by, Applies}
 use Rattle.sqlite_trees.specs.Tree.{Trees}
 use Rattle.sqlite.proofs.Callers.{one_step}
 use Rattle.sqlite_rules.specs.declared.action.Deed.{Deed}
-use Rattle.ov_tables.specs.Tables.{table_of, tree_of, points_to, is_apart, HasTable}
+use Rattle.ov_tables.specs.Tables.{table_of, tree_number, points_to, is_apart, HasTable}
 
 -- a table at its place in a schema, where nothing else has its name or its tree
 pub record Stands (schema : Schema) (table : Table) (at : ℕ) : Type 0 where
@@ -81,7 +81,7 @@ trees_apart schema t u one two other same =
     other (ap (λ (x : Table). x.name) (some_table (sym (tree_found t schema.tables one.named one.alone) ∙ ap (λ n. find (λ x. x.tree == n) schema.tables) same ∙ tree_found u schema.tables two.named two.alone)))
 
 -- the table of a name has the tree of the name
-pub tree_is : (schema : Schema) (table : Table) → HasTable schema table → tree_of schema table.name ≡ table.tree
+pub tree_is : (schema : Schema) (table : Table) → HasTable schema table → tree_number schema table.name ≡ table.tree
 tree_is schema table has = ap (λ (o : Option Table). Rattle.std.proofs.Common.unwrap_or (option_map (λ t. t.tree) o) 0) has.named
 
 -- ---- foreign keys

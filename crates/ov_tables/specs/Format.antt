@@ -126,16 +126,19 @@ tree_listed name db =
 unfoldable pub rows_of : List ℕ → Trees → List Row
 rows_of name db = db (tree_listed name db)
 
--- the rows of the tables
+-- the rows of `meta`
 abbrev pub rows_of_meta : Trees → List Row
 rows_of_meta = rows_of (codes "meta")
 
+-- the rows of `line`
 abbrev pub rows_of_line : Trees → List Row
 rows_of_line = rows_of (codes "line")
 
+-- the rows of `head`
 abbrev pub rows_of_head : Trees → List Row
 rows_of_head = rows_of (codes "head")
 
+-- the rows of `cell`
 abbrev pub rows_of_cell : Trees → List Row
 rows_of_cell = rows_of (codes "cell")
 

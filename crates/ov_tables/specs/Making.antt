@@ -10,7 +10,7 @@ use Rattle.sqlite.specs.Does.{lacks_sequence}
 use Rattle.sqlite.specs.Effect.{Database, IsDatabase}
 use Rattle.sqlite.specs.State.{State}
 use Rattle.sqlite.specs.Tree.{Trees}
-use Rattle.ov_tables.specs.Tables.{tree_of, with_row_tables, with_ours, head_table, HasFreeNames, HasFreeName, HasCellTables}
+use Rattle.ov_tables.specs.Tables.{tree_number, with_row_tables, with_ours, head_table, HasFreeNames, HasFreeName, HasCellTables}
 use Rattle.ov_tables.specs.Format.{rows_of_meta, rows_of_head, rows_of_cell}
 use Rattle.ov_tables.specs.Holding.{HoldsCells, KeepsOthers}
 
@@ -70,7 +70,7 @@ pub record MakesOurs (old new : State) : Type 0 where
   pub was_open : IsTrue old.is_open
   pub is_open : IsTrue new.is_open
   pub bare : IsBare new.now
-  pub meta_tree : tree_of new.now.schema (codes "meta") ≡ next_tree old.now.schema
+  pub meta_tree : tree_number new.now.schema (codes "meta") ≡ next_tree old.now.schema
   pub schema : new.now.schema ≡ with_ours old.now.schema
   pub others : KeepsRows old.now.schema.tables old.now.trees new.now.trees
 
@@ -93,7 +93,7 @@ pub record AddsMeta (k v : List ℕ) (old new : State) : Type 0 where
   pub fresh : are_fresh (rows_of_meta old.now.trees) (meta_row k v number ∷ []) ≡ true
   pub head : rows_of_head new.now.trees ≡ rows_of_head old.now.trees
   pub cell : rows_of_cell new.now.trees ≡ rows_of_cell old.now.trees
-  pub others : KeepsOthers (tree_of old.now.schema (codes "meta") ∷ []) old.now.schema
+  pub others : KeepsOthers (tree_number old.now.schema (codes "meta") ∷ []) old.now.schema
       old.now.trees new.now.trees
   pub sound : IsDatabase new.now
 
@@ -106,7 +106,7 @@ pub record Fills (text : List ℕ) (old new : State) : Type 0 where
   pub stored : HoldsCells text new.now
   pub no_head : rows_of_head new.now.trees ≡ []
   pub no_cell : rows_of_cell new.now.trees ≡ []
-  pub others : KeepsOthers (tree_of old.now.schema (codes "meta") ∷ []) old.now.schema
+  pub others : KeepsOthers (tree_number old.now.schema (codes "meta") ∷ []) old.now.schema
       old.now.trees new.now.trees
 
 -- the three tables were made and filled so

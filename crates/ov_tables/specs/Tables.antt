@@ -108,8 +108,8 @@ abbrev pub table_of : Schema → List ℕ → Option Table
 table_of schema name = find (λ t. same_name t.name name) schema.tables
 
 -- the number of its tree
-abbrev pub tree_of : Schema → List ℕ → ℕ
-tree_of schema name = unwrap_or (option_map (λ t. t.tree) (table_of schema name)) 0
+abbrev pub tree_number : Schema → List ℕ → ℕ
+tree_number schema name = unwrap_or (option_map (λ t. t.tree) (table_of schema name)) 0
 
 -- a foreign key that points to the table with this tree
 abbrev pub points_to : ℕ → Schema → Reference → Bool
@@ -147,17 +147,17 @@ IsAlone schema table key =
 -- The database has the two tables of stored format 1, and room for those of format 2. It may have other tables, indexes and
 -- views.
 pub record HasLineTables (schema : Schema) : Type 0 where
-  pub meta : HasTable schema (meta_table (tree_of schema (codes "meta")))
-  pub line : HasTable schema (line_table (tree_of schema (codes "line")))
+  pub meta : HasTable schema (meta_table (tree_number schema (codes "meta")))
+  pub line : HasTable schema (line_table (tree_number schema (codes "line")))
   pub head : HasFreeName schema (codes "head")
   pub cell : HasFreeName schema (codes "cell")
   pub counts : lacks_sequence schema ≡ false
 
 -- the database has the three tables of stored format 2. It may have other tables, indexes and views
 pub record HasCellTables (schema : Schema) : Type 0 where
-  pub meta : HasTable schema (meta_table (tree_of schema (codes "meta")))
-  pub head : HasTable schema (head_table (tree_of schema (codes "head")))
-  pub cell : HasTable schema (cell_table (tree_of schema (codes "cell")))
+  pub meta : HasTable schema (meta_table (tree_number schema (codes "meta")))
+  pub head : HasTable schema (head_table (tree_number schema (codes "head")))
+  pub cell : HasTable schema (cell_table (tree_number schema (codes "cell")))
 
 -- the database has the tables of one of the two formats
 abbrev pub HasOurTables : Schema → Type 0
@@ -165,74 +165,95 @@ HasOurTables schema = HasLineTables schema ⊎ HasCellTables schema
 
 -- the trees of the tables of the rows in stored format 2
 abbrev pub row_trees : Schema → List ℕ
-row_trees schema = tree_of schema (codes "head") ∷ tree_of schema (codes "cell") ∷ []
+row_trees schema = tree_number schema (codes "head") ∷ tree_number schema (codes "cell") ∷ []
 
 -- the trees of the tables of stored format 2
 abbrev pub cell_trees : Schema → List ℕ
-cell_trees schema = tree_of schema (codes "meta") ∷ row_trees schema
+cell_trees schema = tree_number schema (codes "meta") ∷ row_trees schema
 
 -- the trees of the tables of stored format 1
 abbrev pub line_trees : Schema → List ℕ
-line_trees schema = tree_of schema (codes "meta") ∷ tree_of schema (codes "line") ∷ []
+line_trees schema = tree_number schema (codes "meta") ∷ tree_number schema (codes "line") ∷ []
 
--- the statements
+-- ---- statements
+
+-- makes `meta`
 abbrev pub create_meta : List ℕ
 create_meta = codes "CREATE TABLE meta(k TEXT PRIMARY KEY, v BLOB)"
 
+-- makes `line`
 abbrev pub create_line : List ℕ
 create_line = codes "CREATE TABLE line(tbl TEXT, id BLOB, ver BLOB, body BLOB, PRIMARY KEY(tbl,id))"
 
+-- makes `head`
 abbrev pub create_head : List ℕ
 create_head = codes "CREATE TABLE head(tbl TEXT, id BLOB, ver BLOB, PRIMARY KEY(tbl,id))"
 
+-- makes `cell`
 abbrev pub create_cell : List ℕ
 create_cell =
     codes "CREATE TABLE cell(tbl TEXT, id BLOB, col TEXT, body BLOB, PRIMARY KEY(tbl,id,col))"
 
+-- adds a row to `meta`
 abbrev pub meta_insert_text : List ℕ
 meta_insert_text = codes "INSERT INTO meta(k,v) VALUES(?1,?2)"
 
+-- reads `meta`, each row with its number
 abbrev pub meta_select_text : List ℕ
 meta_select_text = codes "SELECT rowid,k,v FROM meta"
 
+-- empties `meta`
 abbrev pub meta_clear_text : List ℕ
 meta_clear_text = codes "DELETE FROM meta"
 
+-- reads `line`, each row with its number
 abbrev pub line_select_text : List ℕ
 line_select_text = codes "SELECT rowid,tbl,id,ver,body FROM line"
 
+-- empties `line`
 abbrev pub line_clear_text : List ℕ
 line_clear_text = codes "DELETE FROM line"
 
+-- adds a row to `head`
 abbrev pub head_insert_text : List ℕ
 head_insert_text = codes "INSERT INTO head(tbl,id,ver) VALUES(?1,?2,?3)"
 
+-- removes the row of a key from `head`
 abbrev pub head_delete_text : List ℕ
 head_delete_text = codes "DELETE FROM head WHERE tbl=?1 AND id=?2"
 
+-- gives the row of a key in `head` another version
 abbrev pub head_update_text : List ℕ
 head_update_text = codes "UPDATE head SET ver=?3 WHERE tbl=?1 AND id=?2"
 
+-- reads `head`, each row with its number
 abbrev pub head_select_text : List ℕ
 head_select_text = codes "SELECT rowid,tbl,id,ver FROM head"
 
+-- empties `head`
 abbrev pub head_clear_text : List ℕ
 head_clear_text = codes "DELETE FROM head"
 
+-- adds a row to `cell`
 abbrev pub cell_insert_text : List ℕ
 cell_insert_text = codes "INSERT INTO cell(tbl,id,col,body) VALUES(?1,?2,?3,?4)"
 
+-- removes the rows of a key from `cell`
 abbrev pub cell_delete_text : List ℕ
 cell_delete_text = codes "DELETE FROM cell WHERE tbl=?1 AND id=?2"
 
+-- gives the cell of a key and a column another body
 abbrev pub cell_update_text : List ℕ
 cell_update_text = codes "UPDATE cell SET body=?4 WHERE tbl=?1 AND id=?2 AND col=?3"
 
+-- reads `cell`, each row with its number
 abbrev pub cell_select_text : List ℕ
 cell_select_text = codes "SELECT rowid,tbl,id,col,body FROM cell"
 
+-- reads the cells of a key
 abbrev pub cells_of_text : List ℕ
 cells_of_text = codes "SELECT col,body FROM cell WHERE tbl=?1 AND id=?2"
 
+-- empties `cell`
 abbrev pub cell_clear_text : List ℕ
 cell_clear_text = codes "DELETE FROM cell"

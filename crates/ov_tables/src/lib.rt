@@ -1,4 +1,4 @@
-//! The tables of the two stored formats in SQLite: how they are found, made, emptied and read as a whole.
+//! The tables of the two stored formats in SQLite: how they are found, made, changed, emptied and read.
 //!
 //! What their rows stand for, and which changes are written, is the task of `ov_sqlite`. The calls are generic over the kit's
 //! `Alter`.

@@ -14,7 +14,7 @@ use Rattle.ov_specs.proofs.laws.Monitoring.{told_at, updated_rows-by}
 use Rattle.ov_specs.proofs.laws.Truths.{right_holds}
 use Rattle.ov_watch.specs.Telling.{told_change}
 
--- each change by itself, as its key has it among all
+-- each change alone, as its key has it among all
 each_by_key : {B : Type 0} (f : LineKey × Option Row → Option B) (g : LineKey → Option B) (es : Changes) → T (is_sorted line_cmp es) → ((key : LineKey) (o : Option Row) → find line_cmp key es ≡ Some o → f (key, o) ≡ g key)
     → filter_map f es ≡ filter_map (λ e. g e.0) es
 each_by_key f g [] sorted same = refl

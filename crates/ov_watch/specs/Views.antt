@@ -27,9 +27,9 @@ selects kind.Delete r = r.select.delete
 selects kind.Modify r = r.select.modify
 
 -- the named columns, or none if they are not named
-abbrev pub choice_view : ColumnChoice → Option (List (List ℕ))
-choice_view NotNamed = None
-choice_view (Named names) = Some names.items
+abbrev pub column_choice_view : ColumnChoice → Option (List (List ℕ))
+column_choice_view NotNamed = None
+column_choice_view (Named names) = Some names.items
 
 -- ---- objects
 
@@ -44,7 +44,7 @@ has_no_members (member _ _ _) = false
 
 -- ---- faults
 
--- the error that a client receives; it is not told that an allocation failed
+-- the error that a client receives; a failed allocation is not reported to it
 abbrev pub fault_view : WatchFault → Option spec.MonitorFault
 fault_view fault.Syntax = Some spec.Syntax
 fault_view fault.UnknownTable = Some spec.UnknownTable

@@ -5,7 +5,7 @@ ghost use Rattle.serde_json.specs.Find.{as_str};
 ghost use Rattle.serde_json.specs.View.{view, items_view};
 ghost use Rattle.ov_specs.specs.monitors.Requests as spec;
 ghost use Rattle.ov_specs.specs.values.Reading.{each_read, list_read};
-ghost use Rattle.ov_watch.specs.Views.{choice_view, selects};
+ghost use Rattle.ov_watch.specs.Views.{column_choice_view, selects};
 
 use crate::select::{Kind, MonitorSelect};
 use ov_base::Text;
@@ -33,13 +33,16 @@ pub(crate) struct MonitorRequest {
 impl Model for MonitorRequest {
     ghost use Rattle.ov_specs.specs.monitors.Requests as spec;
     ghost use Rattle.ov_specs.specs.codes.MonitorCode.{request_code};
-    ghost use Rattle.ov_watch.specs.Views.{choice_view, select_view};
+    ghost use Rattle.ov_watch.specs.Views.{column_choice_view, select_view};
 
     ghost Value = { spec.MonitorRequest };
 
     ghost coded = { request_code };
 
-    ghost view = { λ r. record { columns = choice_view r.columns; select = select_view r.select } };
+    ghost view = { λ r. record {
+      columns = column_choice_view r.columns;
+      select = select_view r.select;
+    } };
 }
 
 impl MonitorRequest {
@@ -105,7 +108,7 @@ fn request_in(alloc: Global, tree: &Value) -> Result<Option<MonitorRequest>, All
 
 /// The columns chosen by a member `columns`, which may be left out; `None` if it is malformed.
 fn chosen_columns(alloc: Global, tree: Option<&Value>) -> Result<Option<ColumnChoice>, AllocError>
-    ensures { IfOk result (λ o. option_map choice_view o
+    ensures { IfOk result (λ o. option_map column_choice_view o
         ≡ spec.columns_read (option_map view (option_copied tree.entry))) }
 {
     let Some(tree) = tree else {

@@ -8,7 +8,7 @@ use Rattle.clap.specs.declared.error.kind.ErrorKind.TheVariants.{OutOfMemory}
 use Rattle.clap.proofs.WalkLemmas.{first_value-rows}
 use Rattle.ov_words.specs.Faults.{fault_by}
 use Rattle.ov_words.specs.declared.fault.WordFault.TheVariants.{Refused}
-use Rattle.ov_words.specs.Words.{app, are_taken, as_settings, fit_together, is_named, is_number, option_value, settings_by, settings_of}
+use Rattle.ov_words.specs.Words.{app, are_taken, as_settings, fit_together, is_not_empty, is_session_count, option_value, settings_by, settings_of}
 
 and_false : (b : Bool) → (b && false) ≡ false
 and_false true = refl
@@ -38,14 +38,14 @@ pub settings_of-matches : (words : List Text) (m : ArgMatches) → rows_of (foun
 settings_of-matches words m e = settings_by-same (fault_of app words) (first_value (found_of m)) (option_value words)
     (λ name. first_value-rows (found_of m) name ∙ ap (first_of name) e)
 
-is_named-full : (named : Option Text) → named ≢ Some [] → is_named named ≡ true
+is_named-full : (named : Option Text) → named ≢ Some [] → is_not_empty named ≡ true
 is_named-full None full = refl
 is_named-full (Some []) full = absurd (full refl)
 is_named-full (Some (x ∷ xs)) full = refl
 
 -- what is taken
 pub settings_by-taken : (faults : Kinds) (value : Text → Option Text) → faults ≡ [] → value (codes "schema") ≢ Some [] → value (codes "db") ≢ Some []
-    → value (codes "listen") ≢ Some [] → is_number (value (codes "sessions")) ≡ true → fit_together value ≡ true
+    → value (codes "listen") ≢ Some [] → is_session_count (value (codes "sessions")) ≡ true → fit_together value ≡ true
     → settings_by faults value ≡ Some (as_settings value)
 settings_by-taken faults value none schema db listen sessions fit =
     rw (none, is_named-full (value (codes "schema")) schema, is_named-full (value (codes "db")) db, is_named-full (value (codes "listen")) listen, sessions, fit) refl
@@ -59,21 +59,21 @@ pub settings_by-schema : (faults : Kinds) (value : Text → Option Text) → val
 settings_by-schema faults value empty = settings_by-refused faults value (rw empty refl)
 
 pub settings_by-db : (faults : Kinds) (value : Text → Option Text) → value (codes "db") ≡ Some [] → settings_by faults value ≡ None
-settings_by-db faults value empty = settings_by-refused faults value (rw (empty, and_false (is_named (value (codes "schema")))) refl)
+settings_by-db faults value empty = settings_by-refused faults value (rw (empty, and_false (is_not_empty (value (codes "schema")))) refl)
 
 pub settings_by-listen : (faults : Kinds) (value : Text → Option Text) → value (codes "listen") ≡ Some [] → settings_by faults value ≡ None
 settings_by-listen faults value empty = settings_by-refused faults value
-    (rw (empty, and_false (is_named (value (codes "schema")) && is_named (value (codes "db")))) refl)
+    (rw (empty, and_false (is_not_empty (value (codes "schema")) && is_not_empty (value (codes "db")))) refl)
 
 -- a number that is none
-pub settings_by-sessions : (faults : Kinds) (value : Text → Option Text) → is_number (value (codes "sessions")) ≡ false → settings_by faults value ≡ None
+pub settings_by-sessions : (faults : Kinds) (value : Text → Option Text) → is_session_count (value (codes "sessions")) ≡ false → settings_by faults value ≡ None
 settings_by-sessions faults value none = settings_by-refused faults value
-    (rw (none, and_false (is_named (value (codes "schema")) && is_named (value (codes "db")) && is_named (value (codes "listen")))) refl)
+    (rw (none, and_false (is_not_empty (value (codes "schema")) && is_not_empty (value (codes "db")) && is_not_empty (value (codes "listen")))) refl)
 
 -- and a contradiction
 pub settings_by-unfit : (faults : Kinds) (value : Text → Option Text) → fit_together value ≡ false → settings_by faults value ≡ None
 settings_by-unfit faults value unfit = settings_by-refused faults value
-    (rw (unfit, and_false (is_named (value (codes "schema")) && is_named (value (codes "db")) && is_named (value (codes "listen")) && is_number (value (codes "sessions")))) refl)
+    (rw (unfit, and_false (is_not_empty (value (codes "schema")) && is_not_empty (value (codes "db")) && is_not_empty (value (codes "listen")) && is_session_count (value (codes "sessions")))) refl)
 
 -- arguments are refused only if something is wrong
 pub some_of_refused : (k : ErrorKind) (faults : Kinds) → fault_by k ≡ Refused → (k ≡ OutOfMemory) ⊎ IsAmong k faults → faults ≢ []

@@ -38,11 +38,11 @@ app = with_ends (with_database (without_help (new_app (codes "ov_server"))))
 abbrev pub option_value : List Text → Text → Option Text
 option_value words name = first_of name (matches_of app words)
 
--- the empty text names no file and no address
-abbrev pub is_named : Option Text → Bool
-is_named None = true
-is_named (Some []) = false
-is_named (Some (x ∷ xs)) = true
+-- if a text is given, it is not empty: the empty text names no file and no address
+abbrev pub is_not_empty : Option Text → Bool
+is_not_empty None = true
+is_not_empty (Some []) = false
+is_not_empty (Some (x ∷ xs)) = true
 
 -- a flag's value is the text `true` if the flag is used
 abbrev pub is_set : Option Text → Bool
@@ -54,9 +54,9 @@ sessions_in digits = if all_ascii_digits digits && is_in_range 1 most_sessions (
     then Some (digits_value 10 digits) else None
 
 -- if a number of sessions is given, it is such a number
-abbrev pub is_number : Option Text → Bool
-is_number None = true
-is_number (Some digits) = is_some (sessions_in digits)
+abbrev pub is_session_count : Option Text → Bool
+is_session_count None = true
+is_session_count (Some digits) = is_some (sessions_in digits)
 
 -- if an address is named, the streams are not; otherwise no number of sessions is given
 abbrev pub fit_together : (Text → Option Text) → Bool
@@ -65,8 +65,8 @@ fit_together value = if is_some (value (codes "listen"))
 
 -- none of the values is refused
 abbrev pub are_taken : (Text → Option Text) → Bool
-are_taken value = is_named (value (codes "schema")) && is_named (value (codes "db")) && is_named (value (codes "listen"))
-    && is_number (value (codes "sessions")) && fit_together value
+are_taken value = is_not_empty (value (codes "schema")) && is_not_empty (value (codes "db")) && is_not_empty (value (codes "listen"))
+    && is_session_count (value (codes "sessions")) && fit_together value
 
 -- the settings, as the values give them
 abbrev pub as_settings : (Text → Option Text) → Settings

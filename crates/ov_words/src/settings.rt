@@ -1,7 +1,7 @@
 ghost use Rattle.std.specs.Prelude.{◌≡◌, ◌≢◌, [], Err, None, Some, true, false, IfOk, map};
 ghost use Rattle.std.specs.Prelude.{option_and_then};
 ghost use Rattle.clap.specs.Words.{first_value, found_of};
-ghost use Rattle.ov_words.specs.Words.{fit_together, is_number, is_set, sessions_in, settings_of};
+ghost use Rattle.ov_words.specs.Words.{fit_together, is_session_count, is_set, sessions_in, settings_of};
 
 use crate::command::matches;
 use crate::fault::WordFault;
@@ -69,10 +69,10 @@ fn name_of(alloc: Global, matches: &ArgMatches<'_>, name: &str) -> Result<Option
 fn number_of(matches: &ArgMatches<'_>, name: &str) -> Result<Option<u64>, WordFault>
     ensures value { IfOk result (λ count. count
         ≡ option_and_then sessions_in (first_value (found_of matches.now) name.now)) }
-    ensures number { IfOk result (λ count. is_number (first_value (found_of matches.now) name.now)
+    ensures number { IfOk result (λ count. is_session_count (first_value (found_of matches.now) name.now)
         ≡ true) }
     ensures other { result ≡ Err WordFault.Refused
-        → is_number (first_value (found_of matches.now) name.now) ≡ false }
+        → is_session_count (first_value (found_of matches.now) name.now) ≡ false }
 {
     match matches.get_str(name) {
         None => Ok(None),

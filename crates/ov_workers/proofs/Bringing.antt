@@ -5,13 +5,13 @@ use Rattle.ov_specs.specs.wire.Message as wire
 use Rattle.ov_specs.specs.wire.Message.{Asked, asked}
 use Rattle.ov_cut.specs.declared.fault.StreamFault.{StreamFault}
 use Rattle.ov_cut.specs.declared.fault.StreamFault.TheVariants as fault
-use Rattle.ov_cut.specs.CutterState.{CutterState, StandsFor}
+use Rattle.ov_cut.specs.CutterState.{CutterState, HasCut}
 use Rattle.ov_cut.specs.Reading.{AreRead, ReadsPiece}
 use Rattle.ov_cut.proofs.Pieces.{fed_none, nothing_asked}
 use Rattle.ov_order.specs.declared.items.Brought.TheVariants.{Message}
 use Rattle.ov_workers.specs.declared.cause.ReadCause.TheVariants.{InputEnded, ReadFault}
 use Rattle.ov_workers.specs.Reading.{Item}
-use Rattle.ov_workers.specs.Bringing.{BringsAll, IsBrought, IsBroughtToEnd, BroughtSoFar, cause_of_fault}
+use Rattle.ov_workers.specs.Bringing.{BringsAll, IsBrought, IsBroughtToEnd, BroughtSoFar, read_cause_of}
 
 -- ---- messages, one after another
 
@@ -30,7 +30,7 @@ module _ (stream piece : List ℕ) (messages : List wire.Message) (before after 
   all_brought : new ≡ map Message ((asked stream).messages ++ messages)
   all_brought = brings ∙ (ap (λ (l : List Item). l ++ map Message messages) f.brought ∙ sym (map-append Message (asked stream).messages messages))
 
-  to_end : (why : StreamFault) → AreRead (Some why) ((asked stream).messages ++ messages) (asked (stream ++ piece)) → IsBroughtToEnd (cause_of_fault why) (stream ++ piece) new
+  to_end : (why : StreamFault) → AreRead (Some why) ((asked stream).messages ++ messages) (asked (stream ++ piece)) → IsBroughtToEnd (read_cause_of why) (stream ++ piece) new
   to_end fault.Damaged asks = record { messages = (asked stream).messages ++ messages; brought = all_brought; asks = asks }
   to_end fault.Memory asks = record { messages = (asked stream).messages ++ messages; brought = all_brought; asks = asks }
 
@@ -41,8 +41,8 @@ module _ (stream piece : List ℕ) (messages : List wire.Message) (before after 
 -- ---- the end of the input
 
 -- a cutter that has not been used yet
-pub brought_none : (cutter : CutterState) (items : List Item) → StandsFor [] [] cutter → items ≡ [] → IsBrought [] cutter items
-brought_none cutter items stands none = record { fed = fed_none cutter stands; brought = none ∙ sym (ap (λ (a : Asked). map Message a.messages) nothing_asked) }
+pub brought_none : (cutter : CutterState) (items : List Item) → HasCut [] [] cutter → items ≡ [] → IsBrought [] cutter items
+brought_none cutter items cuts none = record { fed = fed_none cutter cuts; brought = none ∙ sym (ap (λ (a : Asked). map Message a.messages) nothing_asked) }
 
 -- the input ended, or a read failed, and nothing is damaged
 module _ (stream : List ℕ) (cutter : CutterState) (items : List Item) (f : IsBrought stream cutter items) where

@@ -2,14 +2,14 @@
 use Rattle.std.proofs.Common.{◌≡◌, ℕ, ◌<◌, List, [], ◌++◌, take, Some, refl, sym, ap, ◌∙◌, append_assoc, append-nil, arith}
 use Rattle.std.specs.Io.KnownBytes.{IsAtEnd}
 use Rattle.ov_ends.specs.States.{SourceState}
-use Rattle.ov_cut.specs.CutterState.{CutterState, StandsFor}
+use Rattle.ov_cut.specs.CutterState.{CutterState, HasCut}
 use Rattle.ov_ends.specs.Ends.{one_more, met_end, KeepsInput}
 use Rattle.ov_ends.proofs.Tellings.{input-more, input-same}
 use Rattle.ov_cut.specs.declared.fault.StreamFault.{StreamFault}
 use Rattle.ov_cut.specs.declared.fault.StreamFault.TheVariants as fault
 use Rattle.ov_workers.specs.declared.cause.ReadCause.TheVariants.{InputEnded, ReadFault}
 use Rattle.ov_workers.specs.Reading.{Item}
-use Rattle.ov_workers.specs.Bringing.{IsBrought, BroughtSoFar, ReadsToEnd, cause_of_fault}
+use Rattle.ov_workers.specs.Bringing.{IsBrought, BroughtSoFar, ReadsToEnd, read_cause_of}
 use Rattle.ov_workers.proofs.Bringing.{brought_none, at_input_end, at_read_fault}
 
 -- the stream was read so far, which is not damaged, and the messages that it asks for were brought
@@ -20,11 +20,11 @@ pub record ReadSoFar (old new : SourceState) (cutter : CutterState) (items : Lis
   pub faults : new.faults ≡ old.faults
   pub input : KeepsInput old.read old.remaining new.read new.remaining
 
-pub read_none : (s : SourceState) (cutter : CutterState) (items : List Item) → StandsFor [] [] cutter → items ≡ [] → ReadSoFar s s cutter items
-read_none s cutter items stands none = record {
+pub read_none : (s : SourceState) (cutter : CutterState) (items : List Item) → HasCut [] [] cutter → items ≡ [] → ReadSoFar s s cutter items
+read_none s cutter items cuts none = record {
   stream = [];
   read = sym (append-nil s.read);
-  brought = brought_none cutter items stands none;
+  brought = brought_none cutter items cuts none;
   faults = refl;
   input = input-same s.read s.remaining;
 }
@@ -70,7 +70,7 @@ module _ (old mid new : SourceState) (cutter : CutterState) (items : List Item) 
     }
 
     -- the stream ended by itself
-    pub then_over : (why : StreamFault) → BroughtSoFar (Some why) (so_far.stream ++ piece) cutter' items' → ReadsToEnd (cause_of_fault why) old new items'
+    pub then_over : (why : StreamFault) → BroughtSoFar (Some why) (so_far.stream ++ piece) cutter' items' → ReadsToEnd (read_cause_of why) old new items'
     then_over fault.Damaged brought = record {
       stream = so_far.stream ++ piece;
       read = read_on piece read;

@@ -29,15 +29,15 @@ pub record IsBroughtToEnd (cause : ReadCause) (stream : List ℕ) (items : List 
   pub brought : items ≡ map Message messages
   pub asks : AreReadUntil cause messages (asked stream)
 
--- why a stream that can't be read on ends
-abbrev pub cause_of_fault : StreamFault → ReadCause
-cause_of_fault fault.Damaged = Damaged
-cause_of_fault fault.Memory = Memory
+-- why a reader ends if its stream has this fault
+abbrev pub read_cause_of : StreamFault → ReadCause
+read_cause_of fault.Damaged = Damaged
+read_cause_of fault.Memory = Memory
 
 -- what was brought of a stream: it goes on, or it ended by itself
 abbrev pub BroughtSoFar : Option StreamFault → List ℕ → CutterState → List Item → Type 0
 BroughtSoFar None stream cutter items = IsBrought stream cutter items
-BroughtSoFar (Some why) stream cutter items = IsBroughtToEnd (cause_of_fault why) stream items
+BroughtSoFar (Some why) stream cutter items = IsBroughtToEnd (read_cause_of why) stream items
 
 -- the stream was read to its end, and the messages that it asks for were brought
 pub record ReadsToEnd (cause : ReadCause) (old new : SourceState) (items : List Item) : Type 0 where

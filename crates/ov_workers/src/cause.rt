@@ -14,10 +14,10 @@ pub enum ReadCause {
 }
 
 impl From<StreamFault> for ReadCause {
-    ghost use Rattle.ov_workers.specs.Bringing.{cause_of_fault};
+    ghost use Rattle.ov_workers.specs.Bringing.{read_cause_of};
     ghost use Rattle.std.specs.Prelude.{◌≡◌};
 
-    ghost from_gives = { λ fault cause. cause ≡ cause_of_fault fault };
+    ghost from_gives = { λ fault cause. cause ≡ read_cause_of fault };
 
     fn from(fault: StreamFault) -> ReadCause {
         match fault {

@@ -1,7 +1,7 @@
 //! The frames that wait for sessions, the prepared frames, and the locks that sessions are notified of, call by call.
 
 ghost use Rattle.std.specs.Prelude.{◌≡◌, ◌≤◌, ◌+◌, ℕ, IfOk};
-ghost use Rattle.ov_outbox.specs.Frames.{count_of, places_for};
+ghost use Rattle.ov_outbox.specs.Frames.{count_for, places_for};
 
 use crate::texts::{fact_text, owned};
 use ov_base::Bytes;
@@ -45,8 +45,8 @@ fn prepare(
     text: &str,
 ) -> Result<(), Fail>
     ensures { (other base : ℕ)
-        → places_for other queues.old ≡ base + count_of other prepared.old
-        → places_for other queues.new ≡ base + count_of other prepared.new }
+        → places_for other queues.old ≡ base + count_for other prepared.old
+        → places_for other queues.new ≡ base + count_for other prepared.new }
 {
     let frame = frame_of(alloc, text)?;
     if prepared.prepare(alloc, queues, session, frame) {
@@ -58,7 +58,7 @@ fn prepare(
 
 /// Prepares the three frames.
 fn prepare_three(alloc: Global, queues: &mut FrameQueues) -> Result<Prepared, Fail>
-    ensures { IfOk result (λ p. (other : ℕ) → count_of other p ≤ places_for other queues.new) }
+    ensures { IfOk result (λ p. (other : ℕ) → count_for other p ≤ places_for other queues.new) }
 {
     let mut prepared = Prepared::new(alloc);
     prepare(alloc, queues, &mut prepared, 1, "x")?;

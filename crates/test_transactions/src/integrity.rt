@@ -410,3 +410,39 @@ fn holders_and_the_row_of_an_index_are_told(rt: HostRuntime) -> Result<(), Fail>
     let mut looked = Looked::new(rt.alloc(), NET)?;
     tells_after_both(rt.alloc(), &mut looked)
 }
+
+/// A root that names one node in the keys of a map, twice in the values of another, and in a column of its own; then a second root
+/// that names it too; then the first one alone, which names it once.
+const REFERRING: [&str; 3] = [
+    r#"0 [{"op":"insert","table":"Root","row":{"first":["named-uuid","a"],"by_key":["map",[[["named-uuid","a"],5]]],"by_value":["map",[[6,["named-uuid","a"]],[7,["named-uuid","a"]]]]}},{"op":"insert","table":"Node","uuid-name":"a","row":{"name":"a"}}]"#,
+    r#"0 [{"op":"insert","table":"Root","row":{"first":["uuid","00000000-0000-4000-8000-000000000003"]}}]"#,
+    r#"0 [{"op":"update","table":"Root","where":[],"row":{"by_key":["map",[]],"by_value":["map",[]]}},{"op":"delete","table":"Root","where":[["_uuid","==",["uuid","00000000-0000-4000-8000-000000000005"]]]}]"#,
+];
+
+/// How many strong references lead to the node after each step, and to the roots.
+const REFERENCES: [&str; 3] = [
+    "Node 00000000-0000-4000-8000-000000000003 4
+Root 00000000-0000-4000-8000-000000000002 0
+",
+    "Node 00000000-0000-4000-8000-000000000003 5
+Root 00000000-0000-4000-8000-000000000002 0
+Root 00000000-0000-4000-8000-000000000005 0
+",
+    "Node 00000000-0000-4000-8000-000000000003 1
+Root 00000000-0000-4000-8000-000000000002 0
+Root 00000000-0000-4000-8000-000000000005 0
+",
+];
+
+/// Fails unless the counts are as wanted after each of the steps.
+fn counts_after_all(alloc: Global, looked: &mut Looked) -> Result<(), Fail> {
+    tells_after(alloc, looked, REFERRING[0], REFERENCES[0])?;
+    tells_after(alloc, looked, REFERRING[1], REFERENCES[1])?;
+    tells_after(alloc, looked, REFERRING[2], REFERENCES[2])
+}
+
+#[test]
+fn each_strong_reference_is_counted(rt: HostRuntime) -> Result<(), Fail> {
+    let mut looked = Looked::new(rt.alloc(), NODES)?;
+    counts_after_all(rt.alloc(), &mut looked)
+}

@@ -38,7 +38,7 @@ all_supported schema rows supported = are_all_rows (λ r. is_supported schema ro
 none_is : (row : Row) → ◌≡◌ {A = Option Row} None (Some row) → ⊥
 none_is row e = cc
 
--- rows that are some of each other are one
+-- two databases, each of which has all rows of the other, are the same
 same_rows : (a b : Database) → AreSome a b → AreSome b a → a ≡ b
 same_rows a b b_in_a a_in_b = same_map key_total key_exact a b (λ key. by key (get a key) (get b key) refl refl)
   where

@@ -23,7 +23,7 @@ module _ {A B C : Type 0} (g : A → B) (kept : B → Bool) (f : B → Option C)
 
 module _ {K B : Type 0} (R : K → K → Ordering) (total : IsTotalOrder R) (exact : IsAntisymmetric R) (f : K → Option B) where
   module _ {X : Type 0} where
-    -- what the keys give, under the keys
+    -- what the key of an element gives, with the key
     abbrev given : K × X → Option (K × B)
     given e = option_map (λ b. (e.0, b)) (f e.0)
 

@@ -10,7 +10,8 @@ use Rattle.serde_json.specs.Find.{as_number, as_bool, as_str, as_array, as_i64}
 use Rattle.uuid.specs.Text.{parsed_hyphenated}
 use Rattle.ov_specs.specs.values.Uuid.{is_uuid, is_id, Names, AreUuids}
 use Rattle.ov_specs.specs.values.Value.{AtomKind, Integers, Booleans, Texts, Uuids, Atom, Integer, Boolean, Text, Uuid, is_in_64_bits, is_text, atom_cmp, Kinds, Single, Pair, marked, set_of, map_of, Datum, Atoms, Pairs, is_atom_of, is_pair_of, is_of}
-use Rattle.ov_specs.specs.values.Reading.{Reading, Reads, Unreadable, Clashing, as_two, tagged, in_64_bits, integer_read, text_read, name_read, uuid_read, atom_read, in_front, pair_read, each_read, list_read, listed_or_one, atoms_read, pairs_read, has_clash, set_reading, map_reading, reads}
+use Rattle.ov_specs.specs.values.Reading.{Reading, Reads, Unreadable, Clashing, as_two, tagged, in_64_bits, integer_read, text_read, name_read, uuid_read, atom_read, pair_read, each_read, list_read, listed_or_one, atoms_read, pairs_read, has_clash, set_reading, map_reading, reads}
+use Rattle.ov_specs.specs.values.Results.{in_front}
 use Rattle.ov_specs.proofs.laws.Order.{atom_cmp_total}
 use Rattle.ov_specs.proofs.laws.Uuids.{hyphenated_is_uuid}
 use Rattle.std.proofs.lemmas.List.{nil_from_length}

@@ -16,7 +16,7 @@ function_to NotEqual = 5
 function_to Includes = 6
 function_to Excludes = 7
 
--- and back
+-- the function of a number
 abbrev function_from : ℕ → Function
 function_from n = get_or (Less ∷ LessOrEqual ∷ Greater ∷ GreaterOrEqual ∷ Equal ∷ NotEqual ∷ Includes ∷ []) n Excludes
 

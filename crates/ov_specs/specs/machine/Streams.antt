@@ -33,6 +33,7 @@ pub record Delivery : Type 0 where
   pub moment : ℕ
   pub session : ℕ
 
+-- such a piece
 abbrev pub delivered : ℕ → ℕ → Delivery
 delivered moment session = record { moment = moment; session = session }
 
@@ -67,6 +68,7 @@ pub record FedState : Type 0 where
   pub state : State
   pub streams : Streams
 
+-- these two
 abbrev pub fed_state : State → Streams → FedState
 fed_state state streams = record { state = state; streams = streams }
 

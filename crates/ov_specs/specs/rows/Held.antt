@@ -11,16 +11,12 @@ use Rattle.ov_specs.specs.rows.Lines.{LineKey}
 use Rattle.ov_specs.specs.rows.RowNames.{row_columns}
 use Rattle.ov_specs.specs.schema.Fitting.{fits}
 use Rattle.ov_specs.specs.schema.SchemaTypes.{Column, Table, Schema, kinds_of}
-use Rattle.ov_specs.specs.values.Reading.{Reading, Reads, Unreadable, Clashing, in_front, reads}
+use Rattle.ov_specs.specs.values.Reading.{Reading, Reads, Unreadable, Clashing, reads}
+use Rattle.ov_specs.specs.values.Results.{all_results}
 use Rattle.ov_specs.specs.values.Uuid.{Uuid, no_names}
 use Rattle.ov_specs.specs.values.Value.{Datum}
 use Rattle.ov_specs.specs.wire.Frame.{frame}
 use Rattle.ov_specs.specs.wire.Message.{tree_of}
-
--- each result, if there are results for all
-abbrev pub all_results : {A B : Type 0} → (A → Option B) → List A → Option (List B)
-all_results give [] = Some []
-all_results give (a ∷ rest) = in_front (give a) (all_results give rest)
 
 -- ---- one line
 

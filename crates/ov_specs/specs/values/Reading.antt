@@ -7,9 +7,11 @@ use Rattle.std.specs.Str.{bytes_eq}
 use Rattle.serde_json.specs.Data.{Num, Data, Items, no_items, item}
 use Rattle.serde_json.specs.Find.{as_number, as_bool, as_str, as_array, as_i64}
 use Rattle.uuid.specs.Text.{parsed_hyphenated}
+use Rattle.ov_specs.specs.values.Results.{all_results}
 use Rattle.ov_specs.specs.values.Uuid as uuid
 use Rattle.ov_specs.specs.values.Uuid.{is_id, Names}
 use Rattle.ov_specs.specs.values.Value.{AtomKind, Integers, Booleans, Texts, Uuids, Atom, Integer, Boolean, Text, Uuid, is_in_64_bits, is_text, atom_cmp, Kinds, Single, Pair, Datum, Atoms, Pairs, set_of, map_of}
+use Rattle.ov_specs.specs.wire.Tree.{item_list}
 
 -- What reading a tree gives: a value; some part does not read; or all parts read and one key has two values.
 pub data Reading (A : Type 0) : Type 0 where
@@ -72,20 +74,13 @@ atom_read names Uuids d = option_map Uuid (uuid_read names d)
 
 -- ---- lists of atoms and of pairs
 
--- one more in front, if both are there
-abbrev pub in_front : {A : Type 0} → Option A → Option (List A) → Option (List A)
-in_front None rest = None
-in_front (Some a) None = None
-in_front (Some a) (Some rest) = Some (a ∷ rest)
-
 -- [key,value] (RFC 7047, 5.1, <pair>)
 abbrev pub pair_read : Names → AtomKind → AtomKind → Data → Option (Atom × Atom)
 pair_read names key value d = option_and_then (λ p. option_zip (atom_read names key p.0) (atom_read names value p.1)) (as_two d)
 
 -- each item, if all of them read
 abbrev pub each_read : {A : Type 0} → (Data → Option A) → Items → Option (List A)
-each_read reader no_items = Some []
-each_read reader (item d ds) = in_front (reader d) (each_read reader ds)
+each_read reader items = all_results reader (item_list items)
 
 -- each item of an array, if all of them read
 abbrev pub list_read : {A : Type 0} → (Data → Option A) → Data → Option (List A)

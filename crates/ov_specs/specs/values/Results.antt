@@ -1,5 +1,5 @@
--- Results, which are a value or a fault: of one thing, and of each element of a list.
-use Rattle.std.specs.Prelude.{List, [], ◌∷◌, Result, Ok, Err}
+-- Results, which are a value or a fault, and options: of one thing, and of each element of a list.
+use Rattle.std.specs.Prelude.{List, [], ◌∷◌, Option, Some, None, Result, Ok, Err}
 
 -- ---- one result
 
@@ -25,3 +25,14 @@ abbrev pub each_or_fault : {A B E : Type 0} → (A → Result B E) → List A �
 each_or_fault result [] = Ok []
 each_or_fault result (a ∷ rest) =
     result_and_then (λ b. result_map (λ others. b ∷ others) (each_or_fault result rest)) (result a)
+
+-- one more in front, if both are there
+abbrev pub in_front : {A : Type 0} → Option A → Option (List A) → Option (List A)
+in_front None rest = None
+in_front (Some a) None = None
+in_front (Some a) (Some rest) = Some (a ∷ rest)
+
+-- what is given for each element, in order, if something is given for all
+abbrev pub all_results : {A B : Type 0} → (A → Option B) → List A → Option (List B)
+all_results give [] = Some []
+all_results give (a ∷ rest) = in_front (give a) (all_results give rest)

@@ -1,5 +1,5 @@
 use Rattle.std.proofs.Common.{◌∙◌}
-use Rattle.ov_conversion.specs.Tables.{carried_of}
+use Rattle.ov_conversion.specs.Carrying.{carried_of}
 use Rattle.ov_conversion.proofs.Made.{with_made, carried-made}
 use Rattle.ov_conversion.proofs.carried.carried.Goals as goal
 

@@ -1,6 +1,6 @@
 use Rattle.std.proofs.Common.{◌≡◌}
 use Rattle.ov_specs.specs.conversion.Carried.{carried}
-use Rattle.ov_conversion.specs.Tables.{carried_of}
+use Rattle.ov_conversion.specs.Carrying.{carried_of}
 use Rattle.ov_conversion.proofs.Made.{with_made}
 use Rattle.ov_conversion.proofs.carried.carried.Given as goal
 

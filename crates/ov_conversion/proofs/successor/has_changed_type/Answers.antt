@@ -1,7 +1,12 @@
-use Rattle.std.proofs.Common.{◌∙◌}
+use Rattle.std.proofs.Common.{sym}
+use Rattle.std.specs.FinMap.{get}
+use Rattle.std.specs.List.{list_any}
+use Rattle.ov_specs.specs.conversion.Converted.{is_of_changed_type}
+use Rattle.ov_specs.specs.rows.RowNames.{row_columns}
+use Rattle.ov_specs.specs.schema.Schema.{is_some_and}
 use Rattle.ov_index.proofs.MapEntries.{tables_by_name}
-use Rattle.ov_conversion.specs.Tables.{has_changed_column}
 use Rattle.ov_conversion.proofs.successor.has_changed_type.Goals as goal
 
-pub returns : goal.returns
-returns c = c.is_any_changed.ensures ∙ tables_by_name (has_changed_column c.args.old.now) c.tables.result.now c.args.new.now.tables c.tables.ensures
+pub loop-name-init : goal.loop-name-init
+loop-name-init c =
+    sym (tables_by_name (λ name table. is_some_and (λ former. list_any (is_of_changed_type former) (row_columns table)) (get c.args.old.now.tables name)) c.tables-name-items.result.now c.args.new.now.tables c.tables-name-items.ensures)

@@ -4,7 +4,7 @@ use Rattle.ov_outbox.specs.Outbox.{Outbox}
 use Rattle.ov_outbox.specs.Waits.{HasPlaces}
 use Rattle.ov_specs.specs.locks.Queues.{Queues, owns}
 use Rattle.ov_specs.specs.operations.Transaction.{TransactionOutcome, transaction}
-use Rattle.ov_core.specs.States.{sessions_of}
+use Rattle.ov_core.specs.States.{machine_sessions}
 use Rattle.ov_core.specs.declared.replying.Audience.{Audience}
 use Rattle.ov_core.proofs.Prepared.{tried_room, tried_keeps, trial_answered, trial_stored, trial_blocked}
 use Rattle.ov_core.proofs.attempt.try_once.Goals as goal
@@ -25,7 +25,7 @@ from_parts-requires-clause-room g c =
 pub returns-in-Answer-clause-tried : goal.returns-in-Answer-clause-tried
 returns-in-Answer-clause-tried g c =
     let to : Queues → TransactionOutcome = λ q. transaction c.args.db.now.schema c.args.db.now.committed (owns q c.args.asked.session) c.args.asked.txn.now.draws c.args.asked.age c.args.asked.txn.now.operations in
-    trial_answered (sessions_of c.args.audience.watchers.now c.args.audience.sessions.now.open_sessions) c.args.asked.session c.args.asked.id.now to c.args.outbox.now.queues c.into_parts-queues.result.1.0
+    trial_answered (machine_sessions c.args.audience.watchers.now c.args.audience.sessions.now.open_sessions) c.args.asked.session c.args.asked.id.now to c.args.outbox.now.queues c.into_parts-queues.result.1.0
     c.args.db.now c.attempt-tried.new.db c.new-replying.result c.attempt-tried.new.ready c.attempt-tried.result c.args.outbox.now.frames c.send_prepared-queues.result c.from_parts.result.frames
     (c.into_parts-queues.ensures.queues ∙ ap (λ (o : Outbox). o.queues) c.replace.ensures.value)
     (c.new-replying.ensures.queues ∙ (c.into_parts-queues.ensures.frames ∙ ap (λ (o : Outbox). o.frames) c.replace.ensures.value))
@@ -35,18 +35,18 @@ returns-in-Answer-clause-tried g c =
 pub returns-in-Stored-clause-tried : goal.returns-in-Stored-clause-tried
 returns-in-Stored-clause-tried g c =
     let to : Queues → TransactionOutcome = λ q. transaction c.args.db.now.schema c.args.db.now.committed (owns q c.args.asked.session) c.args.asked.txn.now.draws c.args.asked.age c.args.asked.txn.now.operations in
-    trial_stored (sessions_of c.args.audience.watchers.now c.args.audience.sessions.now.open_sessions) c.args.asked.session c.args.asked.id.now to c.args.outbox.now.queues c.into_parts-queues.result.1.0
+    trial_stored (machine_sessions c.args.audience.watchers.now c.args.audience.sessions.now.open_sessions) c.args.asked.session c.args.asked.id.now to c.args.outbox.now.queues c.into_parts-queues.result.1.0
     c.args.db.now c.attempt-tried.new.db c.new-replying.result c.attempt-tried.new.ready c.attempt-tried.result c.args.outbox.now.frames c.send_prepared-queues.result c.from_parts.result.frames
     (c.into_parts-queues.ensures.queues ∙ ap (λ (o : Outbox). o.queues) c.replace.ensures.value)
     (c.new-replying.ensures.queues ∙ (c.into_parts-queues.ensures.frames ∙ ap (λ (o : Outbox). o.frames) c.replace.ensures.value))
     (ap (λ (o : Outbox). o.frames) c.from_parts.ensures) c.attempt-tried.ensures.tried c.send_prepared-queues.ensures.sent
     c.in-Stored.answer c.outcome_of.result c.in-Stored.is c.outcome_of.ensures c.new-replying.ensures.prepared c.new-replying.ensures.session c.new-replying.ensures.id
-    (ap (λ (a : Audience). sessions_of a.watchers.now a.sessions.now.open_sessions) c.new-replying.ensures.audience)
+    (ap (λ (a : Audience). machine_sessions a.watchers.now a.sessions.now.open_sessions) c.new-replying.ensures.audience)
 
 pub returns-in-Blocked-clause-tried : goal.returns-in-Blocked-clause-tried
 returns-in-Blocked-clause-tried g c =
     let to : Queues → TransactionOutcome = λ q. transaction c.args.db.now.schema c.args.db.now.committed (owns q c.args.asked.session) c.args.asked.txn.now.draws c.args.asked.age c.args.asked.txn.now.operations in
-    trial_blocked (sessions_of c.args.audience.watchers.now c.args.audience.sessions.now.open_sessions) c.args.asked.session c.args.asked.id.now to c.args.outbox.now.queues c.into_parts-queues.result.1.0
+    trial_blocked (machine_sessions c.args.audience.watchers.now c.args.audience.sessions.now.open_sessions) c.args.asked.session c.args.asked.id.now to c.args.outbox.now.queues c.into_parts-queues.result.1.0
     c.args.db.now c.attempt-tried.new.db c.new-replying.result c.attempt-tried.new.ready c.attempt-tried.result c.args.outbox.now.frames c.send_prepared-queues.result c.from_parts.result.frames
     (c.into_parts-queues.ensures.queues ∙ ap (λ (o : Outbox). o.queues) c.replace.ensures.value)
     (c.new-replying.ensures.queues ∙ (c.into_parts-queues.ensures.frames ∙ ap (λ (o : Outbox). o.frames) c.replace.ensures.value))

@@ -1,10 +1,9 @@
 use Rattle.std.proofs.Common.{◌≡◌, drop}
-use Rattle.ov_specs.specs.rows.Held.{OfCells, tree_stored}
+use Rattle.ov_specs.specs.rows.Held.{OfCells}
 use Rattle.ov_keeper.specs.Views.{cells_view}
 use Rattle.ov_db.specs.Stored.{columns_stored}
 use Rattle.ov_db.proofs.BodyRows.{added_by}
 use Rattle.ov_db.proofs.read_cells.values_in_cells.Given as goal
 
 abbrev pub invariant-loop-name : goal.invariant-loop-name
-invariant-loop-name l =
-    columns_stored (OfCells (cells_view l.cells)) l.table ≡ added_by (tree_stored (OfCells (cells_view l.cells))) (drop l.name-index l.name-items) l.values
+invariant-loop-name l = columns_stored (OfCells (cells_view l.cells)) l.table ≡ added_by (OfCells (cells_view l.cells)) (drop l.name-index l.name-items) l.values

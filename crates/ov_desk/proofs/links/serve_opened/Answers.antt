@@ -60,7 +60,7 @@ returns-clause-served g c old o =
       all = all_end (ends_of g.S.Source g.W.Sink) after.since old.state.next (omega arith) c.args.links.items ms c.finish_all-ends.result.items after.fits (count_stays old.state.next ls ms stay (count_new old.state.next ls t.0)) ends;
       earlier = after.earlier;
       time = time_of g.C.Clock.tells (with_clock old c.args.clock.now) (with_clock core c.run.new.clock) c.args.core.state opens.since.entries x.more after.since.entries by.moments
-          (x.adds ∙ ap (λ l. l ++ x.more) (ap (λ r. r.entries) s.is)) opens.timed by.told x.timed;
+          (x.adds ∙ ap (λ l. l ++ x.more) (ap (λ r. r.entries) s.is)) opens.timed by.reported x.timed;
     })
 
 pub returns-clause-honest : goal.returns-clause-honest

@@ -1,7 +1,7 @@
 use Rattle.std.proofs.Common.{◌≡◌, IfOk, IfErr, refl, ap}
 use Rattle.std.specs.Prelude.{Result, Ok, Err, OnErr}
 use Rattle.ov_db.specs.declared.fault.RefusedOpen.{RefusedOpen}
-use Rattle.ov_pipes.specs.Pipes.{PipesState, state_of}
+use Rattle.ov_pipes.specs.Pipes.{PipesState, pipes_state}
 use Rattle.ov_listen.specs.declared.database.Service.{Service}
 use Rattle.ov_listen.specs.declared.place.Ended.{Ended}
 use Rattle.ov_listen.specs.Databases.{EndsMemory, IsNewKeeper, offer_of}
@@ -19,4 +19,4 @@ by_result e service keeper view before after (Err fault) is_new served refused s
 pub returns-clause-ends : goal.returns-clause-ends
 returns-clause-ends g c =
     let e = c.serve_place.ensures in
-    by_result _ c.args.service c.new.result (state_of g.S.Source g.W.Sink) c.args.pipes.now c.serve_place.new.pipes c.serve_place.result (record { found = c.new.ensures; fresh = refl }) e.served e.refused e.untouched
+    by_result _ c.args.service c.new.result (pipes_state g.S.Source g.W.Sink) c.args.pipes.now c.serve_place.new.pipes c.serve_place.result (record { found = c.new.ensures; fresh = refl }) e.served e.refused e.untouched

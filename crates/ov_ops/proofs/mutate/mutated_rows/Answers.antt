@@ -1,4 +1,4 @@
-use Rattle.std.proofs.Common.{◌≡◌, ◌<◌, length, rules, refl, ◌∙◌, map, []}
+use Rattle.std.proofs.Common.{◌≡◌, ◌<◌, length, rules, refl, ◌∙◌, map}
 use Rattle.std.specs.Prelude.{Ok}
 use Rattle.ov_specs.specs.operations.Mutate as spec
 use Rattle.ov_specs.proofs.laws.Results.{next_more}

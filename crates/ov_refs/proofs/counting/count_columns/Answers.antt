@@ -5,7 +5,8 @@ use Rattle.ov_specs.specs.integrity.References.{Target, column_targets}
 use Rattle.ov_specs.specs.schema.SchemaTypes.{Table}
 use Rattle.ov_specs.specs.values.Value.{Datum}
 use Rattle.ov_rows.proofs.Names.{paired-start, paired-end, zip-entries, paired-empty}
-use Rattle.ov_refs.specs.Counting.{hits, in_64_bits}
+use Rattle.ov_refs.specs.Counting.{hits}
+use Rattle.ov_specs.specs.values.Capped.{capped_to_64_bits}
 use Rattle.ov_refs.proofs.Counts.{in_64-last}
 use Rattle.ov_refs.proofs.counting.count_columns.Goals as goal
 
@@ -21,5 +22,5 @@ returns c =
     let whole =
     paired-start _ _ _ _ _ _ c.into_iter-name-iterator.ensures.into_iter_gives pairs.first c.iter.ensures.rest c.names.ensures (pairs.second ∙ c.values.ensures) in
     let end = paired-end _ _ (paired-empty c.loop-name.name-iterator c.next.new.self c.next.result c.in-None.is c.next.ensures.steps) in
-    in_64-last count c.loop-name.invariant.small ∙ sym (ap (λ rest. in_64_bits (count + hits to (in_columns table rest))) end) ∙ c.loop-name.invariant.counted
-    ∙ (λ j. in_64_bits (hits to (in_columns table (whole j)))) ∙ ap (λ columns. in_64_bits (hits to (in_columns table columns))) (zip-entries (entries c.args.columns.now))
+    in_64-last count c.loop-name.invariant.small ∙ sym (ap (λ rest. capped_to_64_bits (count + hits to (in_columns table rest))) end) ∙ c.loop-name.invariant.counted
+    ∙ (λ j. capped_to_64_bits (hits to (in_columns table (whole j)))) ∙ ap (λ columns. capped_to_64_bits (hits to (in_columns table columns))) (zip-entries (entries c.args.columns.now))

@@ -3,17 +3,17 @@ use Rattle.serde_json.specs.Data.{Items, no_items, item, array}
 use Rattle.serde_json.specs.View.{view, items_view}
 use Rattle.serde_json.specs.declared.value.Value.{Value}
 use Rattle.serde_json.proofs.Views.{view-Array}
-use Rattle.ov_requests.specs.Params.{is_one}
+use Rattle.ov_requests.specs.Params.{is_one_item}
 use Rattle.ov_requests.proofs.answer.only_tree.Goals as goal
 
 same_items : (a b : Items) → array a ≡ array b → a ≡ b
 same_items a b h = cc
 
 -- none, or more than one
-not_one : (items : List Value) (trees : Items) → items_view items ≡ trees → length items ≢ 1 → is_one trees ≡ false
-not_one [] trees is other = subst (λ (t : Items). is_one t ≡ false) is refl
+not_one : (items : List Value) (trees : Items) → items_view items ≡ trees → length items ≢ 1 → is_one_item trees ≡ false
+not_one [] trees is other = subst (λ (t : Items). is_one_item t ≡ false) is refl
 not_one (v ∷ []) trees is other = absurd (other refl)
-not_one (v ∷ w ∷ items) trees is other = subst (λ (t : Items). is_one t ≡ false) is refl
+not_one (v ∷ w ∷ items) trees is other = subst (λ (t : Items). is_one_item t ≡ false) is refl
 
 -- one
 the_one : (items : List Value) (trees : Items) (v : Value) → items_view items ≡ trees → length items ≡ 1 → v ≡ get_or items 0 v → trees ≡ item (view v) no_items

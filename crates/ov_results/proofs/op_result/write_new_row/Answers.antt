@@ -22,4 +22,4 @@ returns-clause-ok c =
 
 pub returns-clause-grown : goal.returns-clause-grown
 returns-clause-grown c =
-    (_, in_turn c.args.text.now.items _ _ _ _ _ _ c.in_ok-extend_from_slice.ensures.items c.in_ok-extend_from_slice-2.ensures.items c.in_ok-extend_from_slice-3.ensures.items)
+    (_, sym (in_turn c.args.text.now.items _ _ _ _ _ _ c.in_ok-extend_from_slice.ensures.items c.in_ok-extend_from_slice-2.ensures.items c.in_ok-extend_from_slice-3.ensures.items))

@@ -11,7 +11,7 @@ returns-else-is_open-clause-entered g c = λ stream fed.
     let away : is_open c.feed_session.new.core.state c.args.session.serial ≡ false = search rules in
     record {
       at = c.now-at.result;
-      told = c.now-at.ensures;
+      reported = c.now-at.ensures;
       mid = c.feed_session.new.core;
       enters = c.feed_session.ensures.enters stream fed;
       ticks = false;
@@ -26,7 +26,7 @@ returns-in_ok-pass_where_due-clause-entered g c = λ stream fed.
     let there : is_open c.feed_session.new.core.state c.args.session.serial ≡ true = search rules in
     record {
       at = c.now-at.result;
-      told = c.now-at.ensures;
+      reported = c.now-at.ensures;
       mid = c.feed_session.new.core;
       enters = c.feed_session.ensures.enters stream fed;
       ticks = c.in_ok-pass_where_due.field-0;
@@ -41,7 +41,7 @@ returns-in_err-pass_where_due-clause-entered g c = λ stream fed.
     let refused : is_ok c.from_residual.result ≡ false = search rules in
     record {
       at = c.now-at.result;
-      told = c.now-at.ensures;
+      reported = c.now-at.ensures;
       mid = c.feed_session.new.core;
       enters = c.feed_session.ensures.enters stream fed;
       ticks = false;

@@ -1,18 +1,17 @@
 use Rattle.std.proofs.Common.{◌≡◌, ℕ, List, length, subst}
 use Rattle.sqlite.specs.Held.{state}
-use Rattle.ov_tables.proofs.KeepLemmas.{inside_keeps}
 use Rattle.ov_sqlite.proofs.ChangeLemmas.{head_updated}
+use Rattle.ov_sqlite.proofs.WritingLemmas.{writes_by}
 use Rattle.ov_sqlite.proofs.renew.update_head.Goals as goal
 
-pub returns-clause-ok : goal.returns-clause-ok
-returns-clause-ok g c clean mode text may =
+pub returns : goal.returns
+returns g c =
     let old = state g.S.Store c.args.tx.now.conn.now in
     let new = state g.S.Store c.execute.new.self.conn.now in
     let line = c.args.line.now in
-    let ran = c.in_ok-execute.ensures.runs clean mode in
     let ver_sixteen = subst (λ (bytes : List ℕ). length bytes ≡ 16) c.id_bytes-2.ensures.bytes c.id_bytes-2.ensures.sixteen in
-    head_updated text old new (may ran.1.was_open) ran.1.mode ran.1.was_open ran.1.committed_is (line.table, line.id) c.in_ok-execute.field-0 line.version ver_sixteen
-    (rw (c.as_bytes.ensures.value, c.as_str.ensures, c.id_bytes.ensures.bytes, c.id_bytes-2.ensures.bytes) at ran.0)
-
-pub returns-clause-kept : goal.returns-clause-kept
-returns-clause-kept g c clean mode = inside_keeps _ _ _ _ _ (c.execute.ensures.runs clean mode)
+    record {
+      writes = writes_by _ _ _ _ c.execute.ensures.same_reference c.in_ok-execute.ensures.runs c.execute.ensures.survives
+          (λ text may ran. head_updated text old new (may ran.1.was_open) ran.1.mode ran.1.was_open ran.1.committed_is (line.table, line.id) c.in_ok-execute.field-0 line.version ver_sixteen
+          (rw (c.as_bytes.ensures.value, c.as_str.ensures, c.id_bytes.ensures.bytes, c.id_bytes-2.ensures.bytes) at ran.0));
+    }

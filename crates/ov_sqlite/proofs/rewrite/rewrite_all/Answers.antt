@@ -38,7 +38,7 @@ returns-in-Err-clause-before g c before =
     let last = state g.S.Store c.rewrite.new.tx.conn.now in
     let begun = c.transaction-tx.ensures.begun in
     let same : c.drop-tx.new.self.0 ≡ c.conn-1.given.0 = search rules in
-    subst (λ h. Survives old (state g.S.Store h) (λ _. ⊥)) same (nothing_then _ _ _ (survives_begin g.S.Store c.args.conn.now last _ (rw begun at c.rewrite.ensures.survives)) c.drop-tx.ensures.survives)
+    subst (λ h. Survives old (state g.S.Store h) (λ _. ⊥)) same (nothing_then _ _ _ (survives_begin g.S.Store c.args.conn.now last _ (rw begun at c.rewrite.ensures.writes.survives)) c.drop-tx.ensures.survives)
 
 pub returns-in-Err-clause-crash : goal.returns-in-Err-clause-crash
 returns-in-Err-clause-crash g c =
@@ -48,7 +48,7 @@ returns-in-Err-clause-crash g c =
     let begun = c.transaction-tx.ensures.begun in
     let P = λ (trees : Trees). (text : List ℕ) → MayBeStored text old → IsRewriteImage c.args.schema.now (after_cell_changes (changes_view c.args.changes.now) empty) old trees in
     let same : end ≡ c.conn-1.given.0 = search rules in
-    let whole = nothing_then _ _ _ (survives_begin g.S.Store c.args.conn.now last _ (rw begun at c.rewrite.ensures.survives)) c.drop-tx.ensures.survives in
+    let whole = nothing_then _ _ _ (survives_begin g.S.Store c.args.conn.now last _ (rw begun at c.rewrite.ensures.writes.survives)) c.drop-tx.ensures.survives in
     subst (λ h. Survives old (state g.S.Store h) P) same (survives_as old (state g.S.Store end) (λ _. ⊥) P whole (λ clean db h. elim (whole.crash clean db h) [ inl was ↦ inl was | inr none ↦ absurd none ]))
 
 pub returns-in-Err-clause-unmoved : goal.returns-in-Err-clause-unmoved
@@ -60,7 +60,7 @@ returns-in-Err-clause-unmoved g c =
     let same : end ≡ c.conn-1.given.0 = search rules in
     subst (λ h. HasCleanDisk (state g.S.Store h) → KeepsCommit old (state g.S.Store h)) same (λ clean.
     let late : HasCleanDisk last = omega (arith, c.drop-tx.ensures.survives.clean) in
-    let kept = (rw begun at c.rewrite.ensures.kept) late refl in
+    let kept = (rw begun at c.rewrite.ensures.writes.kept) late refl in
     keeps_then old last (state g.S.Store end) (record { was_open = kept.was_open; committed = kept.committed }) (rolled_keeps _ _ (c.drop-tx.ensures.undone clean)))
 
 pub returns-in-Err-clause-same : goal.returns-in-Err-clause-same
@@ -72,7 +72,7 @@ returns-in-Err-clause-same g c =
     let same : end ≡ c.conn-1.given.0 = search rules in
     subst (λ h. HasCleanDisk (state g.S.Store h) → IsAsBefore old (state g.S.Store h)) same (λ clean.
     let late : HasCleanDisk last = omega (arith, c.drop-tx.ensures.survives.clean) in
-    let kept = (rw begun at c.rewrite.ensures.kept) late refl in
+    let kept = (rw begun at c.rewrite.ensures.writes.kept) late refl in
     rolled_same g.S.Store c.args.conn.now last (state g.S.Store end) (c.is_autocommit.ensures.settled c.if-not-is_autocommit.false) kept (c.drop-tx.ensures.undone clean))
 
 -- ---- the commit failed
@@ -85,7 +85,7 @@ returns-in-Err-commit-clause-crash g c =
     let same : c.commit.new.self.0 ≡ c.conn-2-1.given.0 = search rules in
     subst (λ h. Survives old (state g.S.Store h) (λ (trees : Trees). (text : List ℕ) → MayBeStored text old → IsRewriteImage c.args.schema.now lines old trees)) same
     (rewritten_crash g.S.Store c.args.conn.now (state g.S.Store c.rewrite.new.tx.conn.now) (state g.S.Store c.commit.new.self.0) (c.is_autocommit.ensures.settled c.if-not-is_autocommit.false) c.args.schema.now lines
-    (rw begun at c.rewrite.ensures.survives) c.commit.ensures.survives (λ clean text may. (rw begun at c.in-Ok.ensures.ok) clean refl text (λ up. by_format text (state g.S.Store c.args.conn.now) _ (c.has_heads-in_cells.ensures ∙ ap (λ s. is_some (table_named s (codes "head"))) c.schema.ensures.value) (may up))))
+    (rw begun at c.rewrite.ensures.writes.survives) c.commit.ensures.survives (λ clean text may. (rw begun at c.in-Ok.ensures.writes.ok) text clean refl (λ up. by_format text (state g.S.Store c.args.conn.now) _ (c.has_heads-in_cells.ensures ∙ ap (λ s. is_some (table_named s (codes "head"))) c.schema.ensures.value) (may up))))
 
 pub returns-in-Err-commit-clause-unmoved : goal.returns-in-Err-commit-clause-unmoved
 returns-in-Err-commit-clause-unmoved g c =
@@ -96,7 +96,7 @@ returns-in-Err-commit-clause-unmoved g c =
     let same : end ≡ c.conn-2-1.given.0 = search rules in
     subst (λ h. HasCleanDisk (state g.S.Store h) → KeepsCommit old (state g.S.Store h)) same (λ clean.
     let late : HasCleanDisk last = omega (arith, c.commit.ensures.survives.clean) in
-    let kept = (rw begun at c.rewrite.ensures.kept) late refl in
+    let kept = (rw begun at c.rewrite.ensures.writes.kept) late refl in
     keeps_then old last (state g.S.Store end) (record { was_open = kept.was_open; committed = kept.committed }) (commit_fails_keeps _ _ _ (c.in-Err-commit.ensures.err clean)))
 
 pub returns-in-Err-commit-clause-same : goal.returns-in-Err-commit-clause-same
@@ -108,8 +108,8 @@ returns-in-Err-commit-clause-same g c =
     let same : end ≡ c.conn-2-1.given.0 = search rules in
     subst (λ h. HasCleanDisk (state g.S.Store h) → IsAsBefore old (state g.S.Store h)) same (λ clean.
     let late : HasCleanDisk last = omega (arith, c.commit.ensures.survives.clean) in
-    refused_same g.S.Store c.args.conn.now last (state g.S.Store end) (c.is_autocommit.ensures.settled c.if-not-is_autocommit.false) _ ((rw begun at c.rewrite.ensures.kept) late refl)
-    ((rw begun at c.in-Ok.ensures.goes_on) late refl) (c.in-Err-commit.ensures.err clean))
+    refused_same g.S.Store c.args.conn.now last (state g.S.Store end) (c.is_autocommit.ensures.settled c.if-not-is_autocommit.false) _ ((rw begun at c.rewrite.ensures.writes.kept) late refl)
+    ((rw begun at c.in-Ok.ensures.writes.goes_on) late refl) (c.in-Err-commit.ensures.err clean))
 
 -- ---- it is committed
 
@@ -121,7 +121,7 @@ returns-in-Ok-commit-clause-crash g c =
     let same : c.commit.new.self.0 ≡ c.conn-2-1.given.0 = search rules in
     subst (λ h. Survives old (state g.S.Store h) (λ (trees : Trees). (text : List ℕ) → MayBeStored text old → IsRewriteImage c.args.schema.now lines old trees)) same
     (rewritten_crash g.S.Store c.args.conn.now (state g.S.Store c.rewrite.new.tx.conn.now) (state g.S.Store c.commit.new.self.0) (c.is_autocommit.ensures.settled c.if-not-is_autocommit.false) c.args.schema.now lines
-    (rw begun at c.rewrite.ensures.survives) c.commit.ensures.survives (λ clean text may. (rw begun at c.in-Ok.ensures.ok) clean refl text (λ up. by_format text (state g.S.Store c.args.conn.now) _ (c.has_heads-in_cells.ensures ∙ ap (λ s. is_some (table_named s (codes "head"))) c.schema.ensures.value) (may up))))
+    (rw begun at c.rewrite.ensures.writes.survives) c.commit.ensures.survives (λ clean text may. (rw begun at c.in-Ok.ensures.writes.ok) text clean refl (λ up. by_format text (state g.S.Store c.args.conn.now) _ (c.has_heads-in_cells.ensures ∙ ap (λ s. is_some (table_named s (codes "head"))) c.schema.ensures.value) (may up))))
 
 pub returns-in-Ok-commit-clause-ok : goal.returns-in-Ok-commit-clause-ok
 returns-in-Ok-commit-clause-ok g c =
@@ -134,4 +134,4 @@ returns-in-Ok-commit-clause-ok g c =
     let late : HasCleanDisk last = omega (arith, c.commit.ensures.survives.clean) in
     let shows = (c.in-Ok-commit.ensures.ok clean).1 in
     rewritten g.S.Store c.args.conn.now last (state g.S.Store c.commit.new.self.0) (c.is_autocommit.ensures.settled c.if-not-is_autocommit.false) c.args.schema.now lines
-    ((rw begun at c.in-Ok.ensures.ok) late refl text (λ up. by_format text old _ (c.has_heads-in_cells.ensures ∙ ap (λ s. is_some (table_named s (codes "head"))) c.schema.ensures.value) (may up))) shows.was_open shows.is_open shows.now_is shows.committed_is)
+    ((rw begun at c.in-Ok.ensures.writes.ok) text late refl (λ up. by_format text old _ (c.has_heads-in_cells.ensures ∙ ap (λ s. is_some (table_named s (codes "head"))) c.schema.ensures.value) (may up))) shows.was_open shows.is_open shows.now_is shows.committed_is)

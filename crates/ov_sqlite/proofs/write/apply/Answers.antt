@@ -1,7 +1,7 @@
 use Rattle.ov_sqlite.proofs.write.apply.Goals as goal
 
-pub returns-in-Put-clause-ok : goal.returns-in-Put-clause-ok
-returns-in-Put-clause-ok g c clean mode text may = rw c.in-Put.is (c.put_row.ensures.ok clean mode text may)
+pub returns-in-Put : goal.returns-in-Put
+returns-in-Put g c = record { writes = rw c.in-Put.is c.put_row.ensures.writes }
 
-pub returns-in-Remove-clause-ok : goal.returns-in-Remove-clause-ok
-returns-in-Remove-clause-ok g c clean mode text may = rw (c.in-Remove.is, ← c.as_str.ensures) (c.remove_row.ensures.ok clean mode text may)
+pub returns-in-Remove : goal.returns-in-Remove
+returns-in-Remove g c = record { writes = rw (c.in-Remove.is, ← c.as_str.ensures) c.remove_row.ensures.writes }

@@ -1,22 +1,22 @@
 use Rattle.std.proofs.Common.{◌≡◌, ℕ, List, length, IsUtf8, subst, ◌∙◌}
 use Rattle.sqlite.specs.Held.{state}
-use Rattle.ov_tables.proofs.KeepLemmas.{inside_keeps}
 use Rattle.ov_sqlite.proofs.ChangeLemmas.{cell_inserted}
+use Rattle.ov_sqlite.proofs.WritingLemmas.{writes_by}
 use Rattle.ov_sqlite.proofs.write.insert_cell.Goals as goal
 
-pub returns-clause-ok : goal.returns-clause-ok
-returns-clause-ok g c clean mode text may has =
+pub returns : goal.returns
+returns g c =
     let old = state g.S.Store c.args.tx.now.conn.now in
     let new = state g.S.Store c.execute.new.self.conn.now in
     let line = c.args.line.now in
     let cell = c.args.cell.now in
-    let ran = c.in_ok-execute.ensures.runs clean mode in
-    let there = has ran.1.was_open in
     let named = subst IsUtf8 (c.as_bytes.ensures.value ∙ c.as_str.ensures) c.as_bytes.ensures.utf8 in
     let col_named = subst IsUtf8 (c.as_bytes-2.ensures.value ∙ c.as_str-2.ensures) c.as_bytes-2.ensures.utf8 in
     let id_sixteen = subst (λ (bytes : List ℕ). length bytes ≡ 16) c.id_bytes.ensures.bytes c.id_bytes.ensures.sixteen in
-    cell_inserted text old new (may ran.1.was_open) ran.1.mode ran.1.was_open ran.1.committed_is line.table line.id named id_sixteen c.in_ok-execute.field-0 cell.column cell.body there.0 col_named there.1
-    (rw (c.as_bytes.ensures.value, c.as_str.ensures, c.id_bytes.ensures.bytes, c.as_bytes-2.ensures.value, c.as_str-2.ensures, c.as_slice.ensures) at ran.0)
-
-pub returns-clause-kept : goal.returns-clause-kept
-returns-clause-kept g c clean mode = inside_keeps _ _ _ _ _ (c.execute.ensures.runs clean mode)
+    record {
+      writes = writes_by _ _ _ _ c.execute.ensures.same_reference c.in_ok-execute.ensures.runs c.execute.ensures.survives
+          (λ text may ran.
+          let there = may.1 ran.1.was_open in
+          cell_inserted text old new (may.0 ran.1.was_open) ran.1.mode ran.1.was_open ran.1.committed_is line.table line.id named id_sixteen c.in_ok-execute.field-0 cell.column cell.body there.0 col_named there.1
+          (rw (c.as_bytes.ensures.value, c.as_str.ensures, c.id_bytes.ensures.bytes, c.as_bytes-2.ensures.value, c.as_str-2.ensures, c.as_slice.ensures) at ran.0));
+    }

@@ -24,13 +24,13 @@ returns-in-Err-commit-clause-crash g c =
     let end = c.commit.new.self.0 in
     let begun = c.transaction-tx.ensures.begun in
     let P = λ (trees : Trees). (text : List ℕ) → MayHoldCells text (state g.S.Store old) → IsCommitImage (after_cell_changes (changes_view c.args.changes.now)) (state g.S.Store old) trees in
-    let made = λ (clean : HasCleanDisk (state g.S.Store last)). (rw begun at c.in-Ok.ensures.ok) clean refl in
+    let made = λ (clean : HasCleanDisk (state g.S.Store last)) (text : List ℕ). (rw begun at c.in-Ok.ensures.writes.ok) text clean refl in
     let whole = survives_then (state g.S.Store old) (state g.S.Store last) (state g.S.Store end) (λ _. ⊥) (λ db. db ≡ (state g.S.Store last).now.trees) P (λ _ db none. absurd none)
     (λ clean db is text may.
     let late : HasCleanDisk (state g.S.Store last) = omega (arith, c.commit.ensures.survives.clean) in
     let was : IsTrue (state g.S.Store old).is_open = (rw begun at c.in-Ok.ensures.opened) late refl c.requires.some in
     record { was_open = was; was_settled = c.is_autocommit.ensures.settled c.if-not-is_autocommit.false was; lines_are = ap (λ (t : Trees). stored_cells t) is ∙ (made late text may).lines_are; meta = ap (λ (t : Trees). rows_of_meta t) is ∙ (made late text may).meta; others = subst (KeepsOthers (row_trees (state g.S.Store old).now.schema) (state g.S.Store old).now.schema (state g.S.Store old).now.trees) (sym is) (made late text may).others })
-    (survives_begin g.S.Store old (state g.S.Store last) _ (rw begun at c.apply_all.ensures.survives)) c.commit.ensures.survives in
+    (survives_begin g.S.Store old (state g.S.Store last) _ (rw begun at c.apply_all.ensures.writes.survives)) c.commit.ensures.survives in
     let same : end ≡ c.conn-2-1.given.0 = search rules in
     subst (λ h. Survives (state g.S.Store old) (state g.S.Store h) P) same whole
 
@@ -41,13 +41,13 @@ returns-in-Ok-commit-clause-crash g c =
     let end = c.commit.new.self.0 in
     let begun = c.transaction-tx.ensures.begun in
     let P = λ (trees : Trees). (text : List ℕ) → MayHoldCells text (state g.S.Store old) → IsCommitImage (after_cell_changes (changes_view c.args.changes.now)) (state g.S.Store old) trees in
-    let made = λ (clean : HasCleanDisk (state g.S.Store last)). (rw begun at c.in-Ok.ensures.ok) clean refl in
+    let made = λ (clean : HasCleanDisk (state g.S.Store last)) (text : List ℕ). (rw begun at c.in-Ok.ensures.writes.ok) text clean refl in
     let whole = survives_then (state g.S.Store old) (state g.S.Store last) (state g.S.Store end) (λ _. ⊥) (λ db. db ≡ (state g.S.Store last).now.trees) P (λ _ db none. absurd none)
     (λ clean db is text may.
     let late : HasCleanDisk (state g.S.Store last) = omega (arith, c.commit.ensures.survives.clean) in
     let was : IsTrue (state g.S.Store old).is_open = (rw begun at c.in-Ok.ensures.opened) late refl c.requires.some in
     record { was_open = was; was_settled = c.is_autocommit.ensures.settled c.if-not-is_autocommit.false was; lines_are = ap (λ (t : Trees). stored_cells t) is ∙ (made late text may).lines_are; meta = ap (λ (t : Trees). rows_of_meta t) is ∙ (made late text may).meta; others = subst (KeepsOthers (row_trees (state g.S.Store old).now.schema) (state g.S.Store old).now.schema (state g.S.Store old).now.trees) (sym is) (made late text may).others })
-    (survives_begin g.S.Store old (state g.S.Store last) _ (rw begun at c.apply_all.ensures.survives)) c.commit.ensures.survives in
+    (survives_begin g.S.Store old (state g.S.Store last) _ (rw begun at c.apply_all.ensures.writes.survives)) c.commit.ensures.survives in
     let same : end ≡ c.conn-2-1.given.0 = search rules in
     subst (λ h. Survives (state g.S.Store old) (state g.S.Store h) P) same whole
 
@@ -57,7 +57,7 @@ returns-in-Ok-commit-clause-ok g c =
     let last = c.apply_all.new.tx.conn.now in
     let end = c.commit.new.self.0 in
     let begun = c.transaction-tx.ensures.begun in
-    let made = λ (clean : HasCleanDisk (state g.S.Store last)). (rw begun at c.in-Ok.ensures.ok) clean refl in
+    let made = λ (clean : HasCleanDisk (state g.S.Store last)) (text : List ℕ). (rw begun at c.in-Ok.ensures.writes.ok) text clean refl in
     let same : end ≡ c.conn-2-1.given.0 = search rules in
     subst (λ h. HasCleanDisk (state g.S.Store h) → (text : List ℕ) → MayHoldCells text (state g.S.Store old) → Stores text (after_cell_changes (changes_view c.args.changes.now)) (state g.S.Store old) (state g.S.Store h)) same (λ clean text may.
     let late : HasCleanDisk (state g.S.Store last) = omega (arith, c.commit.ensures.survives.clean) in
@@ -95,7 +95,7 @@ returns-in-Err-commit-clause-unmoved g c =
     let same : end ≡ c.conn-2-1.given.0 = search rules in
     subst (λ h. HasCleanDisk (state g.S.Store h) → KeepsCommit (state g.S.Store old) (state g.S.Store h)) same (λ clean.
     let late : HasCleanDisk (state g.S.Store last) = omega (arith, c.commit.ensures.survives.clean) in
-    let kept = (rw begun at c.apply_all.ensures.kept) late refl in
+    let kept = (rw begun at c.apply_all.ensures.writes.kept) late refl in
     keeps_then (state g.S.Store old) (state g.S.Store last) (state g.S.Store end) (record { was_open = kept.was_open; committed = kept.committed }) (commit_fails_keeps _ _ _ (c.in-Err-commit.ensures.err clean)))
 
 pub returns-in-Err-clause-before : goal.returns-in-Err-clause-before
@@ -105,7 +105,7 @@ returns-in-Err-clause-before g c before =
     let begun = c.transaction-tx.ensures.begun in
     let same : c.drop-tx.new.self.0 ≡ c.conn-1.given.0 = search rules in
     subst (λ h. Survives (state g.S.Store old) (state g.S.Store h) (λ _. ⊥)) same
-    (nothing_then _ _ _ (survives_begin g.S.Store old (state g.S.Store last) _ (rw begun at c.apply_all.ensures.survives)) c.drop-tx.ensures.survives)
+    (nothing_then _ _ _ (survives_begin g.S.Store old (state g.S.Store last) _ (rw begun at c.apply_all.ensures.writes.survives)) c.drop-tx.ensures.survives)
 
 pub returns-in-Err-clause-crash : goal.returns-in-Err-clause-crash
 returns-in-Err-clause-crash g c =
@@ -115,7 +115,7 @@ returns-in-Err-clause-crash g c =
     let begun = c.transaction-tx.ensures.begun in
     let P = λ (trees : Trees). (text : List ℕ) → MayHoldCells text (state g.S.Store old) → IsCommitImage (after_cell_changes (changes_view c.args.changes.now)) (state g.S.Store old) trees in
     let same : end ≡ c.conn-1.given.0 = search rules in
-    let whole = nothing_then _ _ _ (survives_begin g.S.Store old (state g.S.Store last) _ (rw begun at c.apply_all.ensures.survives)) c.drop-tx.ensures.survives in
+    let whole = nothing_then _ _ _ (survives_begin g.S.Store old (state g.S.Store last) _ (rw begun at c.apply_all.ensures.writes.survives)) c.drop-tx.ensures.survives in
     subst (λ h. Survives (state g.S.Store old) (state g.S.Store h) P) same
     (survives_as (state g.S.Store old) (state g.S.Store end) (λ _. ⊥) P whole (λ clean db h. elim (whole.crash clean db h) [ inl was ↦ inl was | inr none ↦ absurd none ]))
 
@@ -128,7 +128,7 @@ returns-in-Err-clause-unmoved g c =
     let same : end ≡ c.conn-1.given.0 = search rules in
     subst (λ h. HasCleanDisk (state g.S.Store h) → KeepsCommit (state g.S.Store old) (state g.S.Store h)) same (λ clean.
     let late : HasCleanDisk (state g.S.Store last) = omega (arith, c.drop-tx.ensures.survives.clean) in
-    let kept = (rw begun at c.apply_all.ensures.kept) late refl in
+    let kept = (rw begun at c.apply_all.ensures.writes.kept) late refl in
     keeps_then (state g.S.Store old) (state g.S.Store last) (state g.S.Store end) (record { was_open = kept.was_open; committed = kept.committed }) (rolled_keeps _ _ (c.drop-tx.ensures.undone clean)))
 
 pub returns-then-not-is_autocommit-clause-same : goal.returns-then-not-is_autocommit-clause-same
@@ -143,7 +143,7 @@ returns-in-Err-clause-same g c =
     let same : end ≡ c.conn-1.given.0 = search rules in
     subst (λ h. HasCleanDisk (state g.S.Store h) → IsAsBefore old (state g.S.Store h)) same (λ clean.
     let late : HasCleanDisk last = omega (arith, c.drop-tx.ensures.survives.clean) in
-    let kept = (rw begun at c.apply_all.ensures.kept) late refl in
+    let kept = (rw begun at c.apply_all.ensures.writes.kept) late refl in
     rolled_same g.S.Store c.args.conn.now last (state g.S.Store end) (c.is_autocommit.ensures.settled c.if-not-is_autocommit.false) kept (c.drop-tx.ensures.undone clean))
 
 pub returns-in-Err-commit-clause-same : goal.returns-in-Err-commit-clause-same
@@ -155,5 +155,5 @@ returns-in-Err-commit-clause-same g c =
     let same : end ≡ c.conn-2-1.given.0 = search rules in
     subst (λ h. HasCleanDisk (state g.S.Store h) → IsAsBefore old (state g.S.Store h)) same (λ clean.
     let late : HasCleanDisk last = omega (arith, c.commit.ensures.survives.clean) in
-    refused_same g.S.Store c.args.conn.now last (state g.S.Store end) (c.is_autocommit.ensures.settled c.if-not-is_autocommit.false) _ ((rw begun at c.apply_all.ensures.kept) late refl)
-    ((rw begun at c.in-Ok.ensures.goes_on) late refl) (c.in-Err-commit.ensures.err clean))
+    refused_same g.S.Store c.args.conn.now last (state g.S.Store end) (c.is_autocommit.ensures.settled c.if-not-is_autocommit.false) _ ((rw begun at c.apply_all.ensures.writes.kept) late refl)
+    ((rw begun at c.in-Ok.ensures.writes.goes_on) late refl) (c.in-Err-commit.ensures.err clean))

@@ -1,5 +1,5 @@
 use Rattle.std.proofs.Common.{None, Some, ap, ◌∙◌}
-use Rattle.ov_stage.specs.Staging.{with_key}
+use Rattle.ov_stage.specs.Staging.{entry_if_found}
 use Rattle.ov_stage.proofs.Lookups.{after-changed, after-unchanged}
 use Rattle.ov_stage.proofs.lookup.row_after.Goals as goal
 
@@ -16,4 +16,4 @@ returns-in-Some-default-None c =
 pub returns-in-None : goal.returns-in-None
 returns-in-None c =
     let key = c.args.key.now in
-    c.row_before.ensures ∙ ap (with_key key) (after-unchanged c.args.delta.now c.args.rows.now key c.in-None.ensures)
+    c.row_before.ensures ∙ ap (entry_if_found key) (after-unchanged c.args.delta.now c.args.rows.now key c.in-None.ensures)

@@ -2,7 +2,7 @@ use Rattle.std.proofs.Common.{◌≡◌, option_map, ap, sym, ◌∙◌}
 use Rattle.std.specs.FinMap.{get}
 use Rattle.ov_rows.specs.Lending.{lent_row_of}
 use Rattle.ov_specs.specs.rows.Lines.{LineKey}
-use Rattle.ov_stage.specs.Staging.{with_key}
+use Rattle.ov_stage.specs.Staging.{entry_if_found}
 use Rattle.ov_stage.proofs.Lookups.{get-no_table, get-of_table, keyed-lent}
 use Rattle.ov_stage.proofs.lookup.row_before.Goals as goal
 
@@ -15,12 +15,12 @@ returns-in-Some c =
     let key : (name, id) ≡ c.args.key.now = λ i. (c.table.ensures i, c.id.ensures i) in
     ap (λ n. option_map (lent_row_of n) c.row_in.result) (sym c.table.ensures)
     ∙ keyed-lent name id c.row_in.result (get table id) c.row_in.ensures
-    ∙ ap (with_key (name, id)) (sym (get-of_table name id rows table c.in-Some.ensures))
-    ∙ ap (λ (k : LineKey). with_key k (get rows k)) key
+    ∙ ap (entry_if_found (name, id)) (sym (get-of_table name id rows table c.in-Some.ensures))
+    ∙ ap (λ (k : LineKey). entry_if_found k (get rows k)) key
 
 pub returns-in-None : goal.returns-in-None
 returns-in-None c =
     let rows = c.args.rows.now in
     let name = c.table.result.now in
     let key : (name, c.args.key.now.1) ≡ c.args.key.now = λ i. (c.table.ensures i, c.args.key.now.1) in
-    sym (ap (λ (k : LineKey). with_key k (get rows k)) (sym key) ∙ ap (with_key (name, c.args.key.now.1)) (get-no_table name c.args.key.now.1 rows c.in-None.ensures))
+    sym (ap (λ (k : LineKey). entry_if_found k (get rows k)) (sym key) ∙ ap (entry_if_found (name, c.args.key.now.1)) (get-no_table name c.args.key.now.1 rows c.in-None.ensures))

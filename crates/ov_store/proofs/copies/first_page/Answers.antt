@@ -1,10 +1,10 @@
 use Rattle.std.proofs.Common.{Ok}
-use Rattle.ov_store.specs.Answers.{Page, told}
+use Rattle.ov_store.specs.Answers.{Page, was_answered}
 use Rattle.ov_store.proofs.AnswerLemmas.{error_told}
 use Rattle.ov_store.proofs.copies.first_page.Goals as goal
 
 pub returns-in-Ok-read_exact : goal.returns-in-Ok-read_exact
-returns-in-Ok-read_exact c = told (Page c.args.path.now) (Ok c.read_exact.new.buf)
+returns-in-Ok-read_exact c = was_answered (Page c.args.path.now) (Ok c.read_exact.new.buf)
 
 pub returns-in-Ok : goal.returns-in-Ok
 returns-in-Ok c = error_told _ (Page c.args.path.now) c.read_exact.result c.in-Err-read_exact.error c.in-Err-read_exact.is

@@ -3,7 +3,7 @@ use Rattle.sqlite.specs.Held.{state}
 use Rattle.sqlite_trees.specs.Tree.{Trees}
 use Rattle.ov_tables.specs.Making.{IsNewBeside}
 use Rattle.ov_tables.proofs.KeepLemmas.{survives_as}
-use Rattle.ov_store.specs.Answers.{Making, told}
+use Rattle.ov_store.specs.Answers.{Making, was_answered}
 use Rattle.ov_store.proofs.FoundLemmas.{refused_left}
 use Rattle.ov_store.proofs.open.make_new.Goals as goal
 
@@ -17,4 +17,4 @@ returns-clause-left g c may =
     c.in-Err.ensures.unmoved c.fault_at-fault.ensures.survives c.fault_at-fault.ensures.shown
 
 pub returns-clause-told : goal.returns-clause-told
-returns-clause-told g c = told Making c.fault_at-fault.result
+returns-clause-told g c = was_answered Making c.fault_at-fault.result

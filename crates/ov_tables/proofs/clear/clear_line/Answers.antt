@@ -1,6 +1,6 @@
 use Rattle.std.proofs.Common.{codes}
 use Rattle.sqlite.specs.Held.{state}
-use Rattle.ov_tables.specs.Tables.{line_table, tree_of, line_clear_text}
+use Rattle.ov_tables.specs.Tables.{line_table, tree_number, line_clear_text}
 use Rattle.ov_tables.proofs.TableLemmas.{tree_is}
 use Rattle.ov_tables.proofs.KeepLemmas.{inside_keeps}
 use Rattle.ov_tables.proofs.Statements.{line_clear_parsed}
@@ -15,7 +15,7 @@ returns-clause-ok g c clean mode may =
     let ran = c.in_ok-execute.ensures.runs clean mode in
     let it = may ran.1.was_open in
     let schema = old.now.schema in
-    let tree = tree_of schema (codes "line") in
+    let tree = tree_number schema (codes "line") in
     clears old new (line_table tree) line_clear_text line_clear_parsed it.0 it.1 (λ at there. line_clear_is schema at tree there) it.2 c.in_ok-execute.field-0 ran.0 ran.1.mode ran.1.was_open ran.1.is_open (tree_is schema (line_table tree) it.0)
 
 pub returns-clause-kept : goal.returns-clause-kept

@@ -1,6 +1,6 @@
 use Rattle.std.proofs.Common.{codes}
 use Rattle.sqlite.specs.Held.{state}
-use Rattle.ov_tables.specs.Tables.{meta_table, tree_of, meta_clear_text}
+use Rattle.ov_tables.specs.Tables.{meta_table, tree_number, meta_clear_text}
 use Rattle.ov_tables.proofs.TableLemmas.{tree_is}
 use Rattle.ov_tables.proofs.KeepLemmas.{inside_keeps}
 use Rattle.ov_tables.proofs.Statements.{meta_clear_parsed}
@@ -15,7 +15,7 @@ returns-clause-ok g c clean mode may =
     let ran = c.in_ok-execute.ensures.runs clean mode in
     let it = may ran.1.was_open in
     let schema = old.now.schema in
-    let tree = tree_of schema (codes "meta") in
+    let tree = tree_number schema (codes "meta") in
     clears old new (meta_table tree) meta_clear_text meta_clear_parsed it.0 it.1 (λ at there. meta_clear_is schema at tree there) it.2 c.in_ok-execute.field-0 ran.0 ran.1.mode ran.1.was_open ran.1.is_open (tree_is schema (meta_table tree) it.0)
 
 pub returns-clause-kept : goal.returns-clause-kept

@@ -1,7 +1,7 @@
 use Rattle.std.proofs.Common.{codes, IsTrue, subst, sym}
 use Rattle.std.proofs.lemmas.Result.{IfOk-weaker}
 use Rattle.sqlite.specs.Held.{state}
-use Rattle.ov_tables.specs.Tables.{tree_of}
+use Rattle.ov_tables.specs.Tables.{tree_number}
 use Rattle.ov_tables.proofs.ReadLemmas.{shown_open}
 use Rattle.ov_tables.proofs.PassingLemmas.{key_read, shown_mode, answer_keeps, on_answer}
 use Rattle.ov_tables.proofs.query.cells_of.Goals as goal
@@ -12,7 +12,7 @@ returns-clause-cells g c clean mode text may =
     let new = state g.S.Store c.query_all.new.self.conn.now in
     IfOk-weaker c.query_all.result _ _ (λ rows shown.
     let stored = may (shown_open _ _ old new rows.items shown) in
-    key_read old new (tree_of old.now.schema (codes "cell")) (c.args.table.now, c.args.id.now) stored.format.schema.cell stored.sound stored.format.cells rows.items (rw c.as_bytes.ensures.value at shown))
+    key_read old new (tree_number old.now.schema (codes "cell")) (c.args.table.now, c.args.id.now) stored.format.schema.cell stored.sound stored.format.cells rows.items (rw c.as_bytes.ensures.value at shown))
     (c.query_all.ensures.ok clean)
 
 pub returns-clause-opened : goal.returns-clause-opened

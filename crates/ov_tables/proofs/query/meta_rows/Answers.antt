@@ -1,7 +1,7 @@
 use Rattle.std.proofs.Common.{codes, refl, true}
 use Rattle.std.proofs.lemmas.Result.{IfOk-weaker}
 use Rattle.sqlite.specs.Held.{state}
-use Rattle.ov_tables.specs.Tables.{meta_table, tree_of, meta_select_text}
+use Rattle.ov_tables.specs.Tables.{meta_table, tree_number, meta_select_text}
 use Rattle.ov_tables.specs.Querying.{meta_selected}
 use Rattle.ov_tables.proofs.Statements.{meta_select_parsed}
 use Rattle.ov_tables.proofs.MetaTexts.{meta_select_is, meta_select_listed}
@@ -12,7 +12,7 @@ pub returns-clause-rows : goal.returns-clause-rows
 returns-clause-rows g c clean has =
     let begun = state g.S.Store (record c.args.conn.now { in_transaction = true }) in
     let schema = begun.now.schema in
-    let tree = tree_of schema (codes "meta") in
+    let tree = tree_number schema (codes "meta") in
     IfOk-weaker c.query.result _ _ (λ rows it.
     let up = shown_open _ _ begun (state g.S.Store it.0) rows.items it.1 in
     (up, selects begun (state g.S.Store it.0) (meta_table tree) meta_select_text _ _ meta_selected meta_select_parsed (has up) (c.query.ensures.settled up).1 (λ at there. meta_select_is schema at tree there) (λ at there. meta_select_listed schema at tree there) (λ r. refl) rows.items it.1))

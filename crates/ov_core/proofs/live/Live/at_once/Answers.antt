@@ -1,5 +1,5 @@
 use Rattle.std.proofs.Common.{refl}
-use Rattle.ov_core.specs.States.{state_of}
+use Rattle.ov_core.specs.States.{machine_state}
 use Rattle.ov_core.proofs.Watching.{monitors-of}
 use Rattle.ov_core.proofs.Workings.{answer_of, answered_works, cancel_works}
 use Rattle.ov_core.proofs.live.Live.at_once.Goals as goal
@@ -7,7 +7,7 @@ use Rattle.ov_core.proofs.live.Live.at_once.Goals as goal
 pub returns-in-Answer-clause-works : goal.returns-in-Answer-clause-works
 returns-in-Answer-clause-works g c = λ moment asked is.
     let old = c.args.self.now in
-    let (trees, same, frames) = answer_of (state_of old moment) c.args.session asked c.in-Answer.frame (rw c.in-Answer.is at is) in
+    let (trees, same, frames) = answer_of (machine_state old moment) c.args.session asked c.in-Answer.frame (rw c.in-Answer.is at is) in
     rw same (answered_works moment c.args.session trees old c.send.result _ refl c.send.ensures.queues (c.send.ensures.posts trees frames))
 
 pub returns-in-Answer-clause-rest : goal.returns-in-Answer-clause-rest

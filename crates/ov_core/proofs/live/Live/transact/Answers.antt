@@ -2,8 +2,9 @@ use Rattle.std.proofs.Common.{subst, ◌∙◌, arith}
 use Rattle.serde_json.specs.Data.{Items}
 use Rattle.ov_specs.specs.locks.Queues.{owns}
 use Rattle.ov_specs.specs.operations.Transaction.{transaction}
-use Rattle.ov_core.specs.Handling.{IsTrial, listed_of}
-use Rattle.ov_core.specs.States.{state_of, sessions_of}
+use Rattle.ov_history.specs.Entries.{listed_of}
+use Rattle.ov_core.specs.Handling.{IsTrial}
+use Rattle.ov_core.specs.States.{machine_state, machine_sessions}
 use Rattle.ov_core.specs.declared.attempt.Trial.TheVariants.{Done}
 use Rattle.ov_specs.specs.machine.Machine as spec
 use Rattle.ov_core.proofs.Trying.{rises_by_one}
@@ -17,7 +18,7 @@ returns-in_default-clause-works g c =
 pub returns-in-Done-clause-works : goal.returns-in-Done-clause-works
 returns-in-Done-clause-works g c =
     let old = c.args.self.now in
-    let tried = subst (λ (ops : Items). IsTrial (request (sessions_of old.watchers old.sessions.open_sessions) c.args.session c.args.id (transaction old.database.schema old.database.committed (owns old.outbox.queues c.args.session) c.in-Ok.txn.draws 0 ops)) (trial_state old.database old.outbox.frames) (Done c.in-Done.outcome) (trial_state c.try_once.new.db c.try_once.new.outbox.frames)) c.in-Ok.ensures.operations c.in-Done.ensures.tried in
+    let tried = subst (λ (ops : Items). IsTrial (request (machine_sessions old.watchers old.sessions.open_sessions) c.args.session c.args.id (transaction old.database.schema old.database.committed (owns old.outbox.queues c.args.session) c.in-Ok.txn.draws 0 ops)) (trial_state old.database old.outbox.frames) (Done c.in-Done.outcome) (trial_state c.try_once.new.db c.try_once.new.outbox.frames)) c.in-Ok.ensures.operations c.in-Done.ensures.tried in
     rw c.into_draws.ensures (trial_works c.args.moment c.args.session c.args.id c.in-Ok.txn.draws c.args.operations old c.in-Ok.ensures.count c.try_once.new.db c.try_once.new.outbox c.try_once.new.tries c.in-Done.ensures.queues c.in-Done.outcome tried)
 
 pub returns-in-Blocked-clause-works : goal.returns-in-Blocked-clause-works
@@ -29,7 +30,7 @@ returns-in-Blocked-clause-works g c =
     e.queues tried.2 tried.0 waits)
 
 pub returns-in-Blocked-clause-asks : goal.returns-in-Blocked-clause-asks
-returns-in-Blocked-clause-asks g c = rw (← c.in-Blocked.ensures.tried.1) (wait_asks g.K.Keeper.failed (spec.arrived (state_of (record c.args.self.now { database = c.try_once.new.db; outbox = c.try_once.new.outbox; tries = c.try_once.new.tries }) c.args.moment) c.args.session c.args.id c.in-Ok.txn.draws c.in-Ok.txn.operations) c.in-Blocked.timeout
+returns-in-Blocked-clause-asks g c = rw (← c.in-Blocked.ensures.tried.1) (wait_asks g.K.Keeper.failed (spec.arrived (machine_state (record c.args.self.now { database = c.try_once.new.db; outbox = c.try_once.new.outbox; tries = c.try_once.new.tries }) c.args.moment) c.args.session c.args.id c.in-Ok.txn.draws c.in-Ok.txn.operations) c.in-Blocked.timeout
     (record c.args.self.now { database = c.try_once.new.db; outbox = c.try_once.new.outbox; tries = c.try_once.new.tries }) c.wait.result.outcome c.wait.new.self c.wait.ensures.waits)
 
 pub returns-in_default-clause-tries : goal.returns-in_default-clause-tries
@@ -41,5 +42,5 @@ returns-in-Done-clause-tries g c = rises_by_one (listed_of c.in-Done.outcome) c.
 pub returns-in-Blocked-clause-tries : goal.returns-in-Blocked-clause-tries
 returns-in-Blocked-clause-tries g c =
     let mid = record c.args.self.now { database = c.try_once.new.db; outbox = c.try_once.new.outbox; tries = c.try_once.new.tries } in
-    let rest = wait_rest (spec.arrived (state_of mid c.args.moment) c.args.session c.args.id c.in-Ok.txn.draws c.in-Ok.txn.operations) c.in-Blocked.timeout mid c.wait.result.outcome c.wait.new.self c.wait.ensures.waits in
+    let rest = wait_rest (spec.arrived (machine_state mid c.args.moment) c.args.session c.args.id c.in-Ok.txn.draws c.in-Ok.txn.operations) c.in-Blocked.timeout mid c.wait.result.outcome c.wait.new.self c.wait.ensures.waits in
     rises_by_one (listed_of c.wait.result.outcome) c.args.self.now.tries c.wait.new.self.tries (rest.1 ∙ c.in-Blocked.ensures.counted)

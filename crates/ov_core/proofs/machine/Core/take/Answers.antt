@@ -2,7 +2,7 @@ use Rattle.std.proofs.Common.{◌≡◌, ◌≤◌, ◌∙◌, length, true, fal
 use Rattle.std.proofs.lemmas.List.{length-map}
 use Rattle.ov_history.specs.Entries.{session_in}
 use Rattle.ov_specs.specs.machine.Machine.{Take, is_open}
-use Rattle.ov_core.specs.States.{state_of, sessions_of}
+use Rattle.ov_core.specs.States.{machine_state, machine_sessions}
 use Rattle.ov_core.proofs.FewWaiting.{history_few, has_room}
 use Rattle.ov_core.proofs.Steps.{took, has_entered, entered_as, closed_for_memory}
 use Rattle.ov_core.proofs.Watching.{any-serial}
@@ -13,9 +13,9 @@ pub take-draws-requires : goal.take-draws-requires
 take-draws-requires g c =
     let live = c.self.inside.live in
     let kept = c.self.invariant.0 in
-    let there : is_open (state_of live c.args.moment) c.args.session.serial ≡ true = search rules in
+    let there : is_open (machine_state live c.args.moment) c.args.session.serial ≡ true = search rules in
     let few = history_few kept.schema kept.database kept.history _ kept.legal in
-    let all : length (sessions_of live.watchers live.sessions.open_sessions) ≡ length live.sessions.open_sessions = simp length-map in
+    let all : length (machine_sessions live.watchers live.sessions.open_sessions) ≡ length live.sessions.open_sessions = simp length-map in
     record {
       untried = c.self.invariant.1;
       «open» = there;
@@ -26,7 +26,7 @@ take-draws-requires g c =
         c.into_parts-incoming.ensures.incoming,
         λ id operations is. omega (
           arith,
-          has_room (state_of live c.args.moment) c.args.session.serial c.args.received id operations (record { of_each = few.of_each; are_open = few.are_open }) (omega (arith, all, c.are_few.ensures)) there is,
+          has_room (machine_state live c.args.moment) c.args.session.serial c.args.received id operations (record { of_each = few.of_each; are_open = few.are_open }) (omega (arith, all, c.are_few.ensures)) there is,
           ap length c.self.invariant.1,
         ),
       );

@@ -12,7 +12,7 @@ returns-clause-on c =
     let after = subst (λ (changes : Changes). IsAfter changes before (applied delta before)) (sym c.map-changes.ensures) (applied_after delta before) in
     both_ok c.place-3.result (λ same placed. record {
       same = same;
-      placed = placed;
+      places = placed;
       links = c.in_ok-place.ensures.on (applied delta before) after;
       indexes = c.in_ok-place-2.ensures.on (applied delta before) after;
     }) c.place-3.ensures.same c.place-3.ensures.placed

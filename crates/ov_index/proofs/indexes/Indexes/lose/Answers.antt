@@ -2,7 +2,7 @@ use Rattle.std.proofs.Common.{T, rules, ap, sym, subst, ◌∙◌}
 use Rattle.std.specs.FinMap.{is_sorted, get}
 use Rattle.ov_rows.proofs.Maps.{ascends}
 use Rattle.ov_index.specs.IndexKeys.{IndexEntry, index_cmp}
-use Rattle.ov_index.specs.Indexing.{indexes_of, lacking, has_none}
+use Rattle.ov_index.specs.Indexing.{indexes_of, lacking, has_no_rows}
 use Rattle.ov_index.specs.declared.indexes.Indexes.TheInside.{Inside}
 use Rattle.ov_index.proofs.IndexMaps.{with-fewer, lacking-none, get-indexes_of}
 use Rattle.ov_index.proofs.indexes.Indexes.lose.Goals.{in-Some, in-None}
@@ -38,12 +38,12 @@ returns-clause-left c =
           let new = w.remove.new.self in
           let wrote = c.get_mut.follows.holds new in
           w.result-is ∙ w.is_empty.ensures
-          ∙ ap has_none
+          ∙ ap has_no_rows
           (sym (wrote.3 (search rules)).1 ∙ sym (get-indexes_of (c.get_mut.follows.lender new).entries c.entry.inside.key (ascends index_cmp _ wrote.4))
           ∙ (λ i. get (indexes_of (sym w.self-inside-is i).of.entries) (c.entry.view_is i).key))
       | in-None w ↦
           w.result-is
-          ∙ ap has_none
+          ∙ ap has_no_rows
           (w.in-None.ensures.value ∙ sym (get-indexes_of c.self.inside.of.entries c.entry.inside.key c.self.invariant)
           ∙ (λ i. get (indexes_of (sym (w.self-inside-is ∙ ap (λ m. record { of = m }) c.get_mut.follows.holds-at-none) i).of.entries) (c.entry.view_is i).key))
     ]

@@ -5,7 +5,7 @@ use Rattle.std.specs.BTreeSet.{insert_key}
 use Rattle.std.specs.List.{list_any}
 use Rattle.std.specs.Ordering.{nat_cmp}
 use Rattle.ov_specs.specs.schema.SchemaTypes.{name_cmp}
-use Rattle.ov_locks.specs.Held.{HeldNames, NameSet, names_in, names_taken, names_of_set, requests_in, held_of}
+use Rattle.ov_locks.specs.Held.{HeldNames, NameSet, names_asked, names_taken, names_of_set, requests_in, held_of}
 use Rattle.ov_locks.proofs.Given.{on_err}
 use Rattle.ov_locks.proofs.HeldNames.{names-found, names-become, insert-names, any-names, count-set, count-first, size-more, held-same}
 use Rattle.ov_locks.proofs.held.Held.add.Goals as goal
@@ -35,7 +35,7 @@ returns-in_ok-insert-in-Some-clause-count c =
     let old = c.in-Some.names.now in
     let name = c.args.name.now in
     let wrote = c.get_mut.follows.holds new in
-    let names = ap (λ (h : HeldNames). names_in c.args.session h) (sym c.self.view_is) ∙ names-found c.args.session es ∙ ap names_taken (sym c.in-Some.ensures.value) in
+    let names = ap (λ (h : HeldNames). names_asked c.args.session h) (sym c.self.view_is) ∙ names-found c.args.session es ∙ ap names_taken (sym c.in-Some.ensures.value) in
     let added =
     c.in_ok-insert-in-Some.ensures.added
     ∙ ap not (any-names (string_bytes c.in_ok-name.name) old.keys ∙ ap (λ n. list_any (is_at (name_cmp n)) (names_of_set old)) c.in_ok-name.ensures.ok ∙ ap (list_any (is_at (name_cmp name))) (sym names) ∙ c.requires) in

@@ -4,7 +4,7 @@ use Rattle.std.specs.BTreeMap.{is_at}
 use Rattle.std.specs.List.{list_any}
 use Rattle.std.specs.Set.{remove_key}
 use Rattle.ov_specs.specs.schema.SchemaTypes.{name_cmp}
-use Rattle.ov_locks.specs.Held.{HeldNames, names_in, names_taken}
+use Rattle.ov_locks.specs.Held.{HeldNames, names_asked, names_taken}
 use Rattle.ov_locks.proofs.HeldNames.{names-found, names-become, names-none, remove-names, any-names, count-set, size-less}
 use Rattle.ov_locks.proofs.held.Held.remove.Goals.{in-Some, in_default}
 use Rattle.ov_locks.proofs.held.Held.remove.Goals as goal
@@ -27,7 +27,7 @@ pub returns-clause-count : goal.returns-clause-count
 returns-clause-count c = λ has.
     let es = c.self.inside.of.entries in
     let name = c.args.name.now in
-    let names = ap (λ (h : HeldNames). names_in c.args.session h) (sym c.self.view_is) ∙ names-found c.args.session es in
+    let names = ap (λ (h : HeldNames). names_asked c.args.session h) (sym c.self.view_is) ∙ names-found c.args.session es in
     elim c.match-get_mut.branch [
       | in-Some w ↦
           let new = w.remove.new.self in

@@ -1,12 +1,12 @@
 use Rattle.std.proofs.Common.{◌+◌, [], length, refl, sym, ap, ◌∙◌}
 use Rattle.std.specs.Prelude.{None}
-use Rattle.ov_locks.specs.Held.{HeldNames, names_in, names_taken, requests_in, held_of}
+use Rattle.ov_locks.specs.Held.{HeldNames, names_asked, names_taken, requests_in, held_of}
 use Rattle.ov_locks.proofs.HeldNames.{names-found, names-become, count-out}
 use Rattle.ov_locks.proofs.held.Held.take.Goals as goal
 
 pub returns-clause-names : goal.returns-clause-names
 returns-clause-names c =
-    ap names_taken c.remove.ensures.value ∙ sym (names-found c.args.session c.self.inside.of.entries) ∙ ap (λ (h : HeldNames). names_in c.args.session h) c.self.view_is
+    ap names_taken c.remove.ensures.value ∙ sym (names-found c.args.session c.self.inside.of.entries) ∙ ap (λ (h : HeldNames). names_asked c.args.session h) c.self.view_is
 
 pub returns-clause-others : goal.returns-clause-others
 returns-clause-others c = rw (← c.self.view_is) (λ other.

@@ -4,7 +4,7 @@ use Rattle.std.specs.BTreeMap.{is_at}
 use Rattle.std.specs.List.{list_any}
 use Rattle.std.specs.Prelude.{Ok, Err}
 use Rattle.ov_specs.specs.schema.SchemaTypes.{name_cmp}
-use Rattle.ov_locks.specs.Held.{names_in}
+use Rattle.ov_locks.specs.Held.{names_asked}
 use Rattle.ov_locks.specs.Refusing.{RefusesFor, request_refusal}
 use Rattle.ov_locks.proofs.Tables.{Freeing, TableValue, refusal-is, steals-table, same-table, added-is, was-absent, goes-on, memory-later, same-fault}
 use Rattle.ov_locks.proofs.table.LockTable.steal.Goals as goal
@@ -29,7 +29,7 @@ invariant_of-self-in-Err c =
     let name = c.args.name.now in
     let session = c.args.session in
     let held = c.self.inside.held in
-    let absent = was-absent (Unit {0}) Bool (list_any (is_at (name_cmp name)) (names_in session held)) (length (names_in session held)) c.in_ok-request.field-0 c.in_ok-request.ensures.refused in
+    let absent = was-absent (Unit {0}) Bool (list_any (is_at (name_cmp name)) (names_asked session held)) (length (names_asked session held)) c.in_ok-request.field-0 c.in_ok-request.ensures.refused in
     let t =
     same-table name session c.self.inside.queues held c.self.invariant.0 c.self.invariant.1 c.request.new.held c.take_back.new.held c.steal.new.self absent c.in_ok-request.ensures.names c.take_back.ensures.names c.in-Err.ensures.err in
     let fewer = c.take_back.ensures.requests (added-is name session held c.request.new.held c.in_ok-request.ensures.names) in
