@@ -13,10 +13,9 @@ files, which are removed at the end.
 import json
 import os
 import shutil
-import subprocess
 import sys
 
-from northbound import ask, free_port, resident, start, stop
+from northbound import ask, free_port, in_use, resident, start, stop
 
 COLUMNS = 8
 AT_ONCE = 500
@@ -64,14 +63,6 @@ def insert(row, value):
     return {"op": "insert", "table": "T", "uuid-name": f"r{row}", "row": values}
 
 
-def in_use(server, errors):
-    """The bytes that the server has allocated, by the C library, which writes them to the server's standard error."""
-    command = ["gdb", "-p", str(server.pid), "-batch", "-ex", "call (void)malloc_stats()"]
-    subprocess.run(command, capture_output=True, check=True)
-    with open(errors) as file:
-        return int([line for line in file if line.startswith("in use bytes")][-1].split("=")[1])
-
-
 def measure(program, folder, rows, kind):
     """The bytes in use with these rows, with and without the history's texts, and the resident memory, in bytes."""
     column, value, has_indexes = kind
@@ -87,7 +78,7 @@ def measure(program, folder, rows, kind):
     with_history = in_use(server, errors)
     for _ in range(HISTORY):
         ask(port, "echo", [])
-    found = with_history, in_use(server, errors), resident(server) * 1024 * 1024
+    found = with_history, in_use(server, errors), resident(server) * 1e6
     stop(server)
     shutil.rmtree(folder)
     return found
@@ -98,7 +89,7 @@ def main():
     rows = int(sys.argv[3]) if len(sys.argv) > 3 else 40_000
     alone = measure(program, folder, rows, (None, None, False))
     print(f"bytes of a row with a name alone, and in the history: {alone[1] / rows:.0f}, {(alone[0] - alone[1]) / rows:.0f}", flush=True)
-    print(f"resident beyond what is in use, MB: {(alone[2] - alone[1]) / 1024 / 1024:.1f}", flush=True)
+    print(f"resident beyond what is in use, MB: {(alone[2] - alone[1]) / 1e6:.1f}", flush=True)
     for name, kind in KINDS.items():
         found = measure(program, folder, rows, kind)
         values = rows * COLUMNS

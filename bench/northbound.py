@@ -6,8 +6,9 @@ schema, and narrow ones, of four columns.
 
 Each server gets switches of 100 ports, one transaction a switch, 40,000 ports if ROWS is left out. A port has a name, one
 address, `up` and one pair in `external_ids`; its other columns keep their defaults. Then, over new files, it gets 100 rows of
-four columns a transaction, 100,000 if NARROW is left out. It prints the resident memory, in megabytes, of a server with an
-empty database, of one that took the rows, of one that was started over them, and the most that this start took. Debian's
+four columns a transaction, 100,000 if NARROW is left out. It prints the resident memory, in megabytes of 10^6 bytes, of a
+server with an empty database, of one that took the rows, of one that was started over them, and the most that this start took;
+and of this server, by gdb (`malloc_stats`), what the C library had in use with the rows and after the start. Debian's
 `ovn-common` has the schema, `openvswitch-common` the peer. FOLDER is for the files, which are removed at the end.
 """
 import json
@@ -89,7 +90,15 @@ def resident(process, which="VmRSS"):
     """The resident memory of the process, in megabytes; of VmHWM the most that it had."""
     with open(f"/proc/{process.pid}/status") as file:
         line = next(it for it in file if it.startswith(which))
-    return int(line.split()[1]) / 1024
+    return int(line.split()[1]) * 1024 / 1e6
+
+
+def in_use(server, errors):
+    """The bytes that the server has allocated, by the C library, which writes them to the server's standard error."""
+    command = ["gdb", "-p", str(server.pid), "-batch", "-ex", "call (void)malloc_stats()"]
+    subprocess.run(command, capture_output=True, check=True)
+    with open(errors) as file:
+        return int([line for line in file if line.startswith("in use bytes")][-1].split("=")[1])
 
 
 def start(command, port, errors=os.devnull):
@@ -117,22 +126,28 @@ def stop(process):
     process.wait()
 
 
-def measure(command, port, rows, operations):
-    """The memory of an empty server, of the same with the rows, and of one that is started over them, now and at its most."""
-    server = start(command, port)
+def measure(command, port, rows, operations, errors):
+    """The memory of an empty server, of the same with the rows, and of one that is started over them, now and at its most; and
+    what is in use with the rows and after that start, if there is a file for what the server says of it."""
+    used = []
+    server = start(command, port, errors)
     figures = [resident(server)]
     for at in range(rows // PORTS):
         answer = ask(port, "transact", ["OVN_Northbound", *operations(at)])
         if any("error" in it for it in answer["result"]):
             sys.exit(f"refused: {answer['result'][-1]}")
     figures.append(resident(server))
+    if errors != os.devnull:
+        used.append(in_use(server, errors) / 1e6)
     stop(server)
-    server = start(command, port)
+    server = start(command, port, errors)
     figures += [resident(server), resident(server, "VmHWM")]
+    if errors != os.devnull:
+        used.append(in_use(server, errors) / 1e6)
     if count(port) != rows:
         sys.exit("rows are missing")
     stop(server)
-    return figures
+    return figures, used
 
 
 def compare(program, folder, schema, rows, operations):
@@ -144,8 +159,10 @@ def compare(program, folder, schema, rows, operations):
         "ovsdb-server": (["ovsdb-server", f"--unixctl={folder}/control", f"--remote=ptcp:{peer}:127.0.0.1", f"{folder}/peer.db"], peer),
     }
     for name, (command, port) in commands.items():
-        figures = measure(command, port, rows, operations)
-        print(f"{name}: " + ", ".join(f"{it:.1f}" for it in figures), flush=True)
+        errors = f"{folder}/errors" if name == "ours" else os.devnull
+        for figures in measure(command, port, rows, operations, errors):
+            if figures:
+                print(f"{name}: " + ", ".join(f"{it:.1f}" for it in figures), flush=True)
     shutil.rmtree(folder)
 
 
@@ -153,7 +170,7 @@ def main():
     program, folder, *counts = sys.argv[1:]
     wide, few = [int(it) for it in counts] + [40_000, 100_000][len(counts):]
     os.makedirs(folder)
-    print(f"MB with {wide:,} ports: empty, filled, started over them, at the most of that start")
+    print(f"MB with {wide:,} ports: empty, filled, started over them, at the most of that start; in use: filled, started")
     compare(program, folder, WIDE, wide, switch)
     os.makedirs(folder)
     with open(f"{folder}/schema", "w") as file:

@@ -35,6 +35,9 @@ SECONDS = 8
 COMMITS = 500
 FRAMES_OF_A_COMMIT = 5
 
+# So many requests are under way at once where a reply waits for those before it.
+DEPTH = 32
+
 # The log is filled up to this number of frames before its end. A row has no more of them, unless several pages are split.
 ROOM = 8
 
@@ -174,6 +177,10 @@ def insert(store, path, frames):
     return taken, copied
 
 
+def p99(times):
+    return statistics.quantiles(times, n=100)[98]
+
+
 def insert_line(program, source, rows, options):
     """The line of the table of inserts with these options, over a copy of a file, and what was told of the start before them."""
     path = f"{source}-copy"
@@ -193,8 +200,9 @@ def insert_line(program, source, rows, options):
         left.append("")
     os.remove(path)
     os.remove(log_of(path))
-    p99 = statistics.quantiles(taken, n=100)[98]
-    times = [f"{it:,.0f}" for it in (statistics.mean(taken), statistics.median(taken), p99, max(taken))]
+    together = [sum(taken[at:at + DEPTH]) for at in range(len(taken) - DEPTH + 1)]
+    of_each = (statistics.mean(taken), statistics.median(taken), p99(taken), max(taken))
+    times = [f"{it:,.0f}" for it in (*of_each, statistics.median(together), p99(together))]
     line = [*(f"{it:,}" for it in options), *times, f"{copied} in {len(taken):,}", *left]
     say(" ".join(line))
     return line, store.told
@@ -236,8 +244,9 @@ def main():
     print("\nStarts over a closed file: medians, times in ms, memory in MB with the loaded rows.")
     table(["rows", "file, MB", "cache, pages", "starts", "start", "connection", "store", "load", "resident", "peak"], lines)
     print(f"\nInserts of one row, from {inserted:,} rows on, in us; and one start after a kill with a full log, in ms.")
-    head = ["cache, pages", "log, frames", "mean", "p50", "p99", "longest", "log copied", "file, MB", "log, MB", "frames"]
-    table([*head, "start after a kill", "connection", "with the server's look"], inserts)
+    head = ["cache, pages", "log, frames", "mean", "p50", "p99", "longest", "p50 of 32", "p99 of 32", "log copied"]
+    after = ["file, MB", "log, MB", "frames", "start after a kill", "connection", "with the server's look"]
+    table([*head, *after], inserts)
     print(f"\nAll of it took {time.perf_counter() - begun:.0f} s.")
 
 

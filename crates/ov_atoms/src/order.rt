@@ -32,7 +32,8 @@ impl PartialOrd for Datum {
 
     ghost partial_cmp = { λ a b. Some (datum_cmp a b) };
 
-    ghost laws = { partial_order_from_agreeing_total datum_cmp datum_cmp_total (λ a b. refl) (λ a b. refl) };
+    ghost laws = { partial_order_from_agreeing_total datum_cmp datum_cmp_total (λ a b. refl)
+        (λ a b. refl) };
 
     fn partial_cmp(&self, other: &Datum) -> Option<Ordering> {
         Some(self.cmp(other))

@@ -40,7 +40,11 @@ impl Model for Condition {
 
     ghost coded = { condition_code };
 
-    ghost view = { λ c. record { column = c.column; function = function_view c.function; value = c.value } };
+    ghost view = { λ c. record {
+      column = c.column;
+      function = function_view c.function;
+      value = c.value;
+    } };
 }
 
 impl Condition {

@@ -16,7 +16,7 @@ ghost use Rattle.ov_core.specs.Stepping.{StepIs, IsEntered, RefusesStep, Closes}
 ghost use Rattle.ov_core.specs.Stepping.{AppendsEntry, StepAppends};
 ghost use Rattle.ov_core.specs.Passing.{is_due, TicksIf};
 ghost use Rattle.ov_core.specs.Leaving.{LeavesItsOwn};
-ghost use Rattle.ov_db.specs.Committing.{AreKept, MayFind};
+ghost use Rattle.ov_db.specs.Committing.{AreKept, MayFindRows};
 
 use crate::live::Live;
 use ov_base::Bytes;
@@ -54,7 +54,16 @@ impl<K: Keeper, D> Model for Core<K, D> {
 
     ghost Value = { CoreState K D };
 
-    ghost coded = { Prim.hlevel (codes, schema_code, database_code, tree_code, items_code, monitor_code, K.code, D.code) };
+    ghost coded = { Prim.hlevel (
+      codes,
+      schema_code,
+      database_code,
+      tree_code,
+      items_code,
+      monitor_code,
+      K.code,
+      D.code,
+    ) };
 
     ghost view = { λ c. record {
       state = machine_state c.live c.moment;
@@ -342,7 +351,7 @@ impl<K: Keeper + Drop, D: Draws + Drop> Core<K, D> {
     /// failed commit possibly the one that it would have made. Does nothing.
     pub fn shows_would_open(&self)
         ensures { K.is_honest self.now.keeper
-            → MayFind (K.leaves self.now.keeper) self.now.state.schema self.now.state.database
+            → MayFindRows (K.leaves self.now.keeper) self.now.state.schema self.now.state.database
             self.now.state.sealed }
     {
         self.live.database.shows_left();

@@ -44,7 +44,12 @@ impl Model for Cutter {
 
     ghost use Rattle.ov_cut.specs.Message.{IsLeftAs};
 
-    ghost view = { λ c. record { start = c.start; rest = c.rest.items; fault = c.fault; looked = c.looks } };
+    ghost view = { λ c. record {
+      start = c.start;
+      rest = c.rest.items;
+      fault = c.fault;
+      looked = c.looks;
+    } };
 
     ghost invariant = { λ c. IsLeftAs c.rest.items c.scan };
 }

@@ -1,5 +1,5 @@
 -- The row that is kept at a key of an index is the only one there.
-use Rattle.std.proofs.Common.{◌≡◌, List, [], ◌∷◌, Bool, true, false, Option, Some, refl, sym, ap, ◌∙◌}
+use Rattle.std.proofs.Common.{◌≡◌, List, [], ◌∷◌, Bool, true, false, Option, Some, None, refl, sym, ap, ◌∙◌}
 use Rattle.std.specs.Prelude.{slice_get}
 use Rattle.std.proofs.lemmas.Bool.{or_left, or_parts}
 use Rattle.std.proofs.lemmas.Option.{same_Some}
@@ -44,6 +44,10 @@ module _ (schema : Schema) (rows : Database) (suits : Suits schema rows) (whole 
   module _ (indexes : Indexes) (are : AreIndexesOf schema rows indexes) where
     kept_at : (o : Option IdSet) → get indexes key ≡ o → (id : Uuid) → is_in schema rows key id ≡ is_some_and (λ ids. contains_key ids id) o
     kept_at o at id = sym (are key id) ∙ ap (is_some_and (λ (ids : IdSet). contains_key ids id)) at
+
+    -- where none is kept there is none
+    pub tells_none : get indexes key ≡ None → TellsIndexed schema rows key None
+    tells_none at id = (λ e. cc, λ is. absurd (contradicts _ is (kept_at None at id)))
 
     -- the first of those that are kept there is the only one
     pub tells_first : (ids : IdSet) → get indexes key ≡ Some ids → TellsIndexed schema rows key (slice_get (keys ids) 0)

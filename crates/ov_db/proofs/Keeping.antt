@@ -16,7 +16,7 @@ use Rattle.ov_specs.specs.values.Uuid.{is_uuid}
 use Rattle.ov_specs.proofs.laws.LineKeys.{key_total, tied_same}
 use Rattle.ov_specs.proofs.laws.Suiting.{no_row_suits, one_row_suits}
 use Rattle.ov_db.specs.Changing.{Delta, applied, SuitsChanges}
-use Rattle.ov_db.specs.Committing.{AreKept, IsHeld, MayBeHeld, MayFind}
+use Rattle.ov_db.specs.Committing.{AreKept, IsHeld, MayBeHeld, MayFindRows}
 use Rattle.ov_db.specs.Opening.{open_of}
 use Rattle.ov_db.specs.Stored.{AreCellsRead, ArePutRead, IsPutRead, KeepsRows, row_cells, row_stored}
 use Rattle.ov_db.proofs.Added.{same}
@@ -101,7 +101,7 @@ kept_opens schema database kept whole =
     are : (key : LineKey) → option_map Some (get database key) ≡ option_map (row_stored schema key) (stored_under (InCells (cell_lines_of database)) key)
     are key = by key (get database key) refl ∙ ap (λ (o : Option CellLine). option_map (row_stored schema key) (option_map (λ l. (l.0, OfCells l.1)) o)) (sym (get-cell_lines_of database key))
 
-pub found_rows : (leaves : Stored → Type 0) (schema : Schema) (committed : Database) (sealed : Option Database) → MayBeHeld leaves schema committed sealed → AreKept schema committed sealed → MayFind leaves schema committed sealed
+pub found_rows : (leaves : Stored → Type 0) (schema : Schema) (committed : Database) (sealed : Option Database) → MayBeHeld leaves schema committed sealed → AreKept schema committed sealed → MayFindRows leaves schema committed sealed
 found_rows leaves schema committed sealed may kept held left = by (may held left)
   where
     by : IsHeld schema committed sealed held → (open_of schema held ≡ Ok committed) ⊎ ((database : Database) × (sealed ≡ Some database) × (open_of schema held ≡ Ok database))

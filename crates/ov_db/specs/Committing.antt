@@ -37,7 +37,7 @@ pub record AreKept (schema : Schema) (committed : Database) (sealed : Option Dat
   pub sealed_whole : (database : Database) → sealed ≡ Some database → is_whole schema database ≡ true
 
 -- an open now gives the committed rows, or those of the failed commit
-abbrev pub MayFind : (Stored → Type 0) → Schema → Database → Option Database → Type 0
-MayFind leaves schema committed sealed =
+abbrev pub MayFindRows : (Stored → Type 0) → Schema → Database → Option Database → Type 0
+MayFindRows leaves schema committed sealed =
     (held : Stored) → leaves held
     → (open_of schema held ≡ Ok committed) ⊎ ((database : Database) × (sealed ≡ Some database) × (open_of schema held ≡ Ok database))

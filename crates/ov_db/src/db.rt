@@ -12,9 +12,10 @@ ghost use Rattle.ov_db.specs.Changing.{SuitsChanges, applied};
 ghost use Rattle.ov_refs.specs.Counting.{strong_count};
 ghost use Rattle.ov_specs.specs.values.Capped.{capped_to_64_bits};
 ghost use Rattle.ov_refs.specs.Linking.{AreLinksOf};
+ghost use Rattle.ov_index.specs.IndexKeys.{index_key};
 ghost use Rattle.ov_index.specs.Indexing.{AreIndexesOf};
 ghost use Rattle.ov_specs.specs.integrity.Committed.{is_whole};
-ghost use Rattle.ov_db.specs.Committing.{AreKept, Commits, MayFind, MayBeHeld};
+ghost use Rattle.ov_db.specs.Committing.{AreKept, Commits, MayFindRows, MayBeHeld};
 ghost use Rattle.ov_db.specs.Lookups.{TellsIndexed, if_any, weak_holders};
 ghost use Rattle.ov_db.specs.Opening.{FindsOne, IsConvertFault, IsOpenFault, IsReadFault};
 ghost use Rattle.ov_db.specs.Opening.{LeavesOpened, LeavesUnopened, TellsRefusal, open_of};
@@ -27,10 +28,11 @@ use crate::delta::Delta;
 use crate::fault::RefusedOpen;
 use crate::open::open_whole;
 use crate::resident::{Resident, Room};
-use ov_index::{IndexKey, Indexes};
+use ov_atoms::Datum;
+use ov_index::Indexes;
 use ov_keeper::{KeepFault, Keeper};
 use ov_refs::{KeySet, Links};
-use ov_rows::{Row, RowKey, Rows, TableRows};
+use ov_rows::{Row, Rows, TableRows};
 use ov_schema::Schema;
 use std::alloc::Global;
 use std::marker::Model;
@@ -222,23 +224,24 @@ impl<K: Keeper + Drop> Db<K> {
         &self.resident.indexes
     }
 
-    /// The number of strong references from different rows to the row of this key, which stays at 2^64-1 (RFC 7047, 3.2,
-    /// `<base-type>`, refType). Reads only the rows that refer to it, and allocates nothing.
-    pub fn strong_count(&self, to: &RowKey) -> u64
-        ensures { result ≡ capped_to_64_bits
-            (strong_count self.now.schema self.now.committed to.now) }
+    /// The number of strong references from different rows to the row of this identifier in the table of this name, which
+    /// stays at 2^64-1 (RFC 7047, 3.2, `<base-type>`, refType). Reads only the rows that refer to it, and allocates nothing.
+    pub fn strong_count(&self, table: &str, id: Uuid) -> u64
+        ensures { result
+            ≡ capped_to_64_bits
+            (strong_count self.now.schema self.now.committed (table.now, id)) }
     {
         let links = &self.resident.links;
-        links.strong_count(&self.schema, &self.resident.rows, to)
+        links.strong_count(&self.schema, &self.resident.rows, table, id)
     }
 
-    /// The rows that refer weakly to the row of this key, in ascending order and each once, or `None` if there are none (RFC
-    /// 7047, 3.2, `<base-type>`, refType). Allocates nothing.
-    pub fn weak_holders(&self, to: &RowKey) -> Option<&KeySet>
+    /// The rows that refer weakly to the row of this identifier in the table of this name, in ascending order and each once,
+    /// or `None` if there are none (RFC 7047, 3.2, `<base-type>`, refType). Allocates nothing.
+    pub fn weak_holders(&self, table: &str, id: Uuid) -> Option<&KeySet>
         ensures { option_map keys (option_copied result)
-            ≡ if_any (weak_holders self.now.schema self.now.committed to.now) }
+            ≡ if_any (weak_holders self.now.schema self.now.committed (table.now, id)) }
     {
-        let holders = self.resident.links.weak().of(to)?;
+        let holders = self.resident.links.weak().of(table, id)?;
         if holders.is_empty() {
             None
         } else {
@@ -246,12 +249,14 @@ impl<K: Keeper + Drop> Db<K> {
         }
     }
 
-    /// The row, at most one, that has these values in this index of its table (RFC 7047, 3.2, `<table-schema>`, indexes).
-    /// Allocates nothing.
-    pub fn indexed(&self, key: &IndexKey) -> Option<Uuid>
-        ensures { TellsIndexed self.now.schema self.now.committed key.now result }
+    /// The row, at most one, that has these values in the columns of the index of this number, counted from 0, of the table of
+    /// this name (RFC 7047, 3.2, `<table-schema>`, indexes). Allocates nothing.
+    pub fn indexed(&self, table: &str, number: usize, values: &[Datum]) -> Option<Uuid>
+        ensures { TellsIndexed self.now.schema self.now.committed
+            (index_key table.now number values.now) result }
     {
-        self.resident.indexes.at(key)?.as_slice().first().copied()
+        let ids = self.resident.indexes.at(table, number, values)?;
+        ids.as_slice().first().copied()
     }
 
     /// The rows.
@@ -308,7 +313,7 @@ impl<K: Keeper + Drop> Db<K> {
     pub fn shows_left(&self)
         ensures held { K.is_honest self.now.keeper → MayBeHeld
             (K.leaves self.now.keeper) self.now.schema self.now.committed self.now.sealed }
-        ensures found { K.is_honest self.now.keeper → MayFind
+        ensures found { K.is_honest self.now.keeper → MayFindRows
             (K.leaves self.now.keeper) self.now.schema self.now.committed self.now.sealed }
         // An open finds something.
         ensures some { K.is_honest self.now.keeper → ∥ ((held : Stored)

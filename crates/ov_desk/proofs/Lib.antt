@@ -6,5 +6,6 @@ mod Seats
 mod Running
 mod Serving
 mod Halls
+mod Noting
 mod Gone
 mod Guests

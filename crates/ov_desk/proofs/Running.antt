@@ -16,7 +16,7 @@ use Rattle.ov_desk.specs.declared.hall.Hall.{Hall}
 use Rattle.ov_desk.specs.Guests.{IsKept}
 use Rattle.ov_desk.specs.Time.{TakesTime}
 use Rattle.ov_core.specs.Following.{Timed, with_clock}
-use Rattle.ov_desk.specs.Serving.{ServesLobby, ServesBy, times, AreApart, KeepsPlaces, KeepsHall, TakesNoted, IsTended}
+use Rattle.ov_desk.specs.Serving.{ServesLobby, ServesBy, times, AreApart, TakesFor, KeepsPlaces, KeepsHall, TakesNoted, IsTended}
 
 -- ---- places that are kept
 
@@ -33,13 +33,10 @@ times_append : (n : ℕ) (xs ys : List ℕ) → times n (xs ++ ys) ≡ times n x
 times_append n [] ys = omega arith
 times_append n (x ∷ xs) ys = let e = times_append n xs ys in omega (arith, e)
 
-abbrev Counted : List ℕ → Lane → Lane → Type 0
-Counted notes l m = SameLane l m × (length (received m.inbound) ≡ length (received l.inbound) + times l.session.serial notes)
-
-tended_same : (l m : Lane) → IsTended l m → SameLane l m × (received m.inbound ≡ received l.inbound)
+pub tended_same : (l m : Lane) → IsTended l m → SameLane l m × (received m.inbound ≡ received l.inbound)
 tended_same l m t = (let inbound = t.0 in let outbound = t.1 in let session = t.2 in search rules, ap received t.0)
 
-puts_taken : (l m : Lane) → PutsAlone l m → SameLane l m × (received m.inbound ≡ received l.inbound)
+pub puts_taken : (l m : Lane) → PutsAlone l m → SameLane l m × (received m.inbound ≡ received l.inbound)
 puts_taken l m (outbound, inbound, session) = (search rules, ap received inbound)
 
 stays_by : (P Q : Lane → Lane → Type 0) → ((l m : Lane) → P l m → Q l m) → (ls ms : List (Option Lane)) → StayAs P ls ms → StayAs Q ls ms
@@ -93,7 +90,7 @@ pub tended_same_all : (ls ms : List (Option Lane)) → StayAs IsTended ls ms →
 tended_same_all ls ms s = stays_by IsTended SameLane (λ l m t. (tended_same l m t).0) ls ms s
 
 pub kept_same : (notes : List ℕ) (ls ms : List (Option Lane)) → KeepsPlaces notes ls ms → StayAs SameLane ls ms
-kept_same notes ls ms s = stays_by (Counted notes) SameLane (λ l m c. c.0) ls ms s
+kept_same notes ls ms s = stays_by (TakesFor notes) SameLane (λ l m c. c.0) ls ms s
 
 pub apart_stays : (ls ms : List (Option Lane)) → StayAs SameLane ls ms → AreApart ls → AreApart ms
 apart_stays ls ms s apart i j m n is_m is_n same =
@@ -101,8 +98,8 @@ apart_stays ls ms s apart i j m n is_m is_n same =
     let y = some_before SameLane (get_or ls j None) (get_or ms j None) n (s.each j) is_n in
     apart i j x.0 y.0 x.1 y.1 (sym (ap (λ k. k.serial) x.2.2) ∙ (same ∙ ap (λ k. k.serial) y.2.2))
 
-counts_along : (xs ys : List ℕ) (p q r : Option Lane) → StaysAs (Counted xs) p q → StaysAs (Counted ys) q r → StaysAs (Counted (xs ++ ys)) p r
-counts_along xs ys None q r x y = subst (λ (k : Option Lane). StaysAs (Counted ys) k r) x y
+counts_along : (xs ys : List ℕ) (p q r : Option Lane) → StaysAs (TakesFor xs) p q → StaysAs (TakesFor ys) q r → StaysAs (TakesFor (xs ++ ys)) p r
+counts_along xs ys None q r x y = subst (λ (k : Option Lane). StaysAs (TakesFor ys) k r) x y
 counts_along xs ys (Some l) None r x y = absurd x
 counts_along xs ys (Some l) (Some m) None x y = absurd y
 counts_along xs ys (Some l) (Some m) (Some n) (same, count) (same', count') = (
@@ -116,7 +113,7 @@ kept_along xs ys ls ms ns x y = record { many = y.many ∙ x.many; each = λ at.
 -- ---- an item for a note
 
 module _ (serial : ℕ) (ls ms : List (Option Lane)) (same : StayAs SameLane ls ms) where
-  counted_at : (at : ℕ) (p q : Option Lane) → StaysAs SameLane p q → ((l m : Lane) → p ≡ Some l → q ≡ Some m → length (received m.inbound) ≡ length (received l.inbound) + times l.session.serial (serial ∷ [])) → StaysAs (Counted (serial ∷ [])) p q
+  counted_at : (at : ℕ) (p q : Option Lane) → StaysAs SameLane p q → ((l m : Lane) → p ≡ Some l → q ≡ Some m → length (received m.inbound) ≡ length (received l.inbound) + times l.session.serial (serial ∷ [])) → StaysAs (TakesFor (serial ∷ [])) p q
   counted_at at None q s count = s
   counted_at at (Some l) None s count = s
   counted_at at (Some l) (Some m) s count = (s, count l m refl refl)

@@ -1,10 +1,10 @@
 -- The connections to which a lobby gave a session.
-use Rattle.std.specs.Prelude.{◌≡◌, ◌⊎◌, ◌<◌, ◌≤◌, ℕ, List, vec_len, true, false, Option}
+use Rattle.std.specs.Prelude.{◌≡◌, ◌⊎◌, ◌<◌, ◌≤◌, ℕ, List, [], ◌∷◌, ◌++◌, vec_len, if◌then◌else◌, ◌==◌, ◌&&◌, Bool, true, false, is_some, option_to_list, MatchBool, Option, Some, None}
 use Rattle.ov_specs.specs.machine.Machine.{is_open}
 use Rattle.ov_core.specs.Following.{CoreState, Timed}
 use Rattle.ov_lanes.specs.Moments.{Tells}
 use Rattle.ov_lanes.specs.Since.{Since}
-use Rattle.ov_lanes.specs.Lanes.{IsAt, StayAs, Serves, ServesOn, DeskGoesOn}
+use Rattle.ov_lanes.specs.Lanes.{IsAt, SameLane, StayAs, Serves, ServesOn, DeskGoesOn}
 use Rattle.ov_lanes.specs.declared.desk.Desk.{Desk}
 use Rattle.ov_lanes.specs.declared.lane.Lane.{Lane}
 use Rattle.ov_lanes.specs.declared.link.Link.{Link}
@@ -14,7 +14,7 @@ use Rattle.ov_desk.specs.Ending.{LinkEnds}
 use Rattle.ov_desk.specs.Ends.{EndsLane}
 use Rattle.ov_desk.specs.LinkStates.{LinkState}
 use Rattle.ov_desk.specs.Seats.{AreSeats}
-use Rattle.ov_desk.specs.Serving.{ServesLobby, ServesBy, IsTended}
+use Rattle.ov_desk.specs.Serving.{ServesLobby, ServesBy, IsTended, AreApart, TakesFor, TakesNoted}
 
 -- The session was served to its end: it was given a link, and this is what remains of the link.
 pub record IsGuest {K D S W : Type 0} {old new : CoreState K D} (ends : S → W → LinkState) (since : Since old new) (n : ℕ) : Type 0 where
@@ -85,3 +85,39 @@ pub record HostsBy {K D S W C : Type 0} (ends : S → W → LinkState) (tells : 
   pub reported : Tells tells clock moments clock'
   pub hosts : (start : CoreState K D) (serves : Serves start old.core old.lanes.items)
       → (by : ServesBy moments serves new) × (AreHosted ends serves → AreHosted ends by.after)
+
+-- ---- notes; for private clauses
+
+-- the note is the accepting worker's, from which more links may come
+abbrev pub is_of_lobby : {K D S W L : Type 0} → Hall K D S W L → ℕ → Bool
+is_of_lobby hall note = note == 0 && is_some hall.accepted
+
+-- For a note of the accepting worker no item was taken from any session's ring, and sessions may have left. For another note an
+-- item of its session was taken; if not, it has no place, and nothing is changed.
+abbrev pub TakesNote : {K D S W L : Type 0} → (S → W → LinkState) → ℕ → Hall K D S W L → Bool → List (Option Lane) → Type 0
+TakesNote ends note old taken ms = MatchBool (is_of_lobby old note)
+    (StayOrLeave IsTended ends old.desk.lanes.items ms)
+    (StayAs SameLane old.desk.lanes.items ms × TakesNoted note old.desk.lanes.items taken ms)
+
+-- the note, if there is one and it isn't the accepting worker's
+abbrev pub session_notes : {K D S W L : Type 0} → Hall K D S W L → Option ℕ → List ℕ
+session_notes hall None = []
+session_notes hall (Some note) = if is_of_lobby hall note then [] else note ∷ []
+
+-- From the ring of each session as many items were taken as notes of its serial. Then it still has its place, or it has left.
+abbrev pub TakesNotes : {S W : Type 0} → (S → W → LinkState) → List ℕ → List (Option Lane) → List (Option Lane) → Type 0
+TakesNotes ends notes ls ms = (at : ℕ) (l : Lane) → IsAt ls at l → (m : Lane) × TakesFor notes l m × (IsAt ms at m ⊎ HasLeft ends m)
+
+-- a hall was served with this note, or with none
+abbrev pub ServesNote : {K D S W L : Type 0} → (S → W → LinkState) → Option ℕ → Hall K D S W L → Hall K D S W L → Type 0
+ServesNote ends note old new = AreApart old.desk.lanes.items → TakesNotes ends (session_notes old note) old.desk.lanes.items new.desk.lanes.items
+
+-- it was served with these, one after another
+abbrev pub ServesEach : {K D S W L : Type 0} → (S → W → LinkState) → List (Option ℕ) → Hall K D S W L → Hall K D S W L → Type 0
+ServesEach ends [] old new = new ≡ old
+ServesEach {K} {D} {S} {W} {L} ends (note ∷ notes) old new = (mid : Hall K D S W L) × ServesNote ends note old mid × ServesEach ends notes mid new
+
+-- those that were taken
+abbrev pub notes_in : List (Option ℕ) → List ℕ
+notes_in [] = []
+notes_in (note ∷ notes) = option_to_list note ++ notes_in notes

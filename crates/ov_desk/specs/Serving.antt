@@ -66,9 +66,13 @@ times serial (n ∷ notes) = (if n == serial then 1 else 0) + times serial notes
 abbrev pub AreApart : List (Option Lane) → Type 0
 AreApart places = (at other : ℕ) (l m : Lane) → IsAt places at l → IsAt places other m → l.session.serial ≡ m.session.serial → at ≡ other
 
+-- the lane has the same rings and the same session, and as many items were taken from it as notes of its serial
+abbrev pub TakesFor : List ℕ → Lane → Lane → Type 0
+TakesFor notes l m = SameLane l m × (length (received m.inbound) ≡ length (received l.inbound) + times l.session.serial notes)
+
 -- each place keeps its session, from whose ring as many items were taken as notes of its serial
 abbrev pub KeepsPlaces : List ℕ → List (Option Lane) → List (Option Lane) → Type 0
-KeepsPlaces notes ls ms = StayAs (λ l m. SameLane l m × (length (received m.inbound) ≡ length (received l.inbound) + times l.session.serial notes)) ls ms
+KeepsPlaces notes ls ms = StayAs (TakesFor notes) ls ms
 
 -- a hall that keeps its places and gets no more links goes on as one, with these notes taken
 abbrev pub KeepsHall : {K D S W L : Type 0} → List ℕ → Hall K D S W L → Hall K D S W L → Type 0

@@ -1,7 +1,6 @@
 ghost use Rattle.std.specs.Prelude.{◌≡◌};
 
-use crate::listen::Listen;
-use ov_lanes::Link;
+use ov_lanes::{Link, Listen};
 use ov_order::{Brought, Noter};
 use ov_workers::{Common, Gate, take_handed};
 use rtrb::{Consumer, Producer};

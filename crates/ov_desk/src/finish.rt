@@ -23,7 +23,7 @@ use std::sync::ledger::Ledger;
 use std::thread::Threads;
 
 /// What is reported of a session: that its writer failed, or why it was closed.
-fn told(failed: bool, known: Option<Cause>) -> Cause
+fn reported_cause(failed: bool, known: Option<Cause>) -> Cause
     ensures { MatchBool failed (result ≡ WriteFault) (result ≡ unwrap_or known Memory) }
 {
     if failed {
@@ -81,7 +81,7 @@ where
         last_reader: read.last,
         writer: wrote.writer,
         last_writer: wrote.last,
-        cause: told(wrote.failed, lane.cause),
+        cause: reported_cause(wrote.failed, lane.cause),
     }
 }
 

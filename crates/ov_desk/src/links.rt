@@ -134,7 +134,8 @@ where
     }
 }
 
-/// Hands the links to the workers, lets these begin, serves the sessions to the end, and joins the workers.
+/// Lets the workers begin and then hands them the links, so that none is read or written before. Serves the sessions to the
+/// end, and joins the workers.
 fn serve_opened<'s, E, R, K, D, L, G, S, W, C>(
     common: Common<'s, R, L, G>,
     scope: &Scope<'s, E>,
@@ -159,6 +160,8 @@ where
         (with_clock result.desk.core clock.new) links.items result.ends.items }
     ensures honest { K.is_honest result.desk.core.keeper → K.is_honest core.keeper }
 {
+    common.order.lock(common.rt).begin(true);
+    common.order.wake();
     let mut lanes = opened.lanes;
     let mut workers = opened.workers;
     seat_all(
@@ -168,8 +171,6 @@ where
         &mut lanes,
         &mut workers,
     );
-    common.order.lock(common.rt).begin(true);
-    common.order.wake();
     let mut hall = Hall {
         desk: Desk { core, lanes },
         workers,

@@ -10,13 +10,12 @@ use crate::accept::{Accepted, LOBBY, accept_worker};
 use crate::fault::RefusedLobby;
 use crate::hall::Hall;
 use crate::links::{SHARES, all_bells};
-use crate::listen::Listen;
 use crate::parts::Parts;
 use crate::run::run;
 use ov_core::Core;
 use ov_ends::{Clock, Sink, Source};
 use ov_keeper::Keeper;
-use ov_lanes::{Desk, Lane, ServeFault};
+use ov_lanes::{Desk, Lane, Listen, ServeFault};
 use ov_order::{Bell, Noter, Order, Taken, inbound_ring};
 use ov_requests::Draws;
 use ov_workers::{Common, Gate, HandRing, Workers};
@@ -153,9 +152,9 @@ where
             listener,
         });
     };
-    to_worker.push_reserved(Some(listener));
     common.order.lock(common.rt).begin(true);
     common.order.wake();
+    to_worker.push_reserved(Some(listener));
     run(common, scope, bells, &mut hall, &mut Taken::new(), clock);
     hall.leave_all(common.rt);
     accepting.join(common.rt);

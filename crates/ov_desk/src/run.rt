@@ -1,9 +1,10 @@
-ghost use Rattle.std.specs.Prelude.{◌≡◌, ◌++◌, ◌∷◌, [], ℕ, List, option_to_list};
+ghost use Rattle.std.specs.Prelude.{◌≡◌, ◌++◌, ◌∷◌, [], ℕ, List, Option, option_to_list};
 ghost use Rattle.ov_lanes.specs.Lanes.{AreOver, DeskGoesOn, IsSteady, SameLane, StayAs};
-ghost use Rattle.ov_desk.specs.Guests.{HostsBy, HostsOn};
+ghost use Rattle.ov_desk.specs.Guests.{HostsBy, HostsOn, ServesEach, ServesNote, StayOrLeave, TakesNote};
+ghost use Rattle.ov_desk.specs.Guests.{notes_in};
 ghost use Rattle.ov_desk.specs.LinkStates.{ends_of};
 ghost use Rattle.ov_desk.specs.Seats.{AreSeats};
-ghost use Rattle.ov_desk.specs.Serving.{KeepsHall, TakesNoted};
+ghost use Rattle.ov_desk.specs.Serving.{IsTended, KeepsHall, TakesNoted};
 
 use crate::accept::LOBBY;
 use crate::admit::admit;
@@ -77,6 +78,8 @@ where
     requires seats { AreSeats hall.old }
     ensures hosts { (moment : ℕ)
         → HostsOn (ends_of S.Source W.Sink) moment hall.old.desk hall.new.desk }
+    ensures untaken { StayOrLeave IsTended (ends_of S.Source W.Sink) hall.old.desk.lanes.items
+        hall.new.desk.lanes.items }
     ensures seats { AreSeats hall.new }
     ensures honest { K.is_honest hall.new.desk.core.keeper → K.is_honest hall.old.desk.core.keeper }
 {
@@ -113,6 +116,8 @@ where
     W: Sink + Send + Drop + 's,
     requires seats { AreSeats hall.old }
     ensures hosts { HostsOn (ends_of S.Source W.Sink) moment hall.old.desk hall.new.desk }
+    ensures noted { TakesNote (ends_of S.Source W.Sink) note hall.old result
+        hall.new.desk.lanes.items }
     ensures kept { KeepsHall (note ∷ []) hall.old hall.new }
     ensures seats { AreSeats hall.new }
     ensures honest { K.is_honest hall.new.desk.core.keeper → K.is_honest hall.old.desk.core.keeper }
@@ -144,6 +149,7 @@ where
     W: Sink + Send + Drop + 's,
     requires seats { AreSeats hall.old }
     ensures hosts { HostsOn (ends_of S.Source W.Sink) moment hall.old.desk hall.new.desk }
+    ensures noted { ServesNote (ends_of S.Source W.Sink) note hall.old hall.new }
     ensures kept { KeepsHall (option_to_list note) hall.old hall.new }
     ensures seats { AreSeats hall.new }
     ensures honest { K.is_honest hall.new.desk.core.keeper → K.is_honest hall.old.desk.core.keeper }
@@ -185,6 +191,9 @@ where
     ensures hosts { HostsBy (ends_of S.Source W.Sink) C.tells hall.old.desk clock.old hall.new.desk
         clock.new }
     ensures over { AreOver hall.new.desk.lanes.items }
+    ensures noted { (notes : List (Option ℕ))
+        × (taken.new.serials ≡ taken.old.serials ++ notes_in notes)
+        × ServesEach (ends_of S.Source W.Sink) notes hall.old hall.new }
     ensures kept { (notes : List ℕ) × (taken.new.serials ≡ taken.old.serials ++ notes)
         × KeepsHall notes hall.old hall.new }
     ensures seats { AreSeats hall.new }

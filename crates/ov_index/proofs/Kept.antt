@@ -1,5 +1,5 @@
 -- Which rows are at which keys after entries were added or removed.
-use Rattle.std.proofs.Common.{◌≡◌, List, [], ◌∷◌, Bool, true, false, cond, ◌&&◌, ◌||◌, not, Option, Some, None, is_some, refl, sym, ap, ◌∙◌}
+use Rattle.std.proofs.Common.{◌≡◌, ◌==◌, List, [], ◌∷◌, Bool, true, false, cond, ◌&&◌, ◌||◌, not, Option, Some, None, is_some, refl, sym, ap, ◌∙◌}
 use Rattle.std.specs.Prelude.{unwrap_or}
 use Rattle.std.specs.Cmp.{eq_by_cmp_equiv}
 use Rattle.std.specs.Cmp.Lexicographic.{texts_ties}
@@ -13,8 +13,9 @@ use Rattle.ov_specs.proofs.laws.Names.{name_cmp_total}
 use Rattle.ov_specs.proofs.laws.Truths.{equal_is, zero_is}
 use Rattle.ov_index.specs.Collecting.{is_entry, has_entry, with_entry, with_entries}
 use Rattle.ov_index.specs.IndexKeys.{IndexKey, IndexEntry, index_cmp, same_index_key}
-use Rattle.ov_index.specs.Indexing.{IdSet, Indexes, ids_at, is_indexed, lacking, has_no_rows, without_none, without_entry, without_entries}
+use Rattle.ov_index.specs.Indexing.{IdSet, Indexes, ids_at, is_indexed, ids_left, without_entry, without_entries}
 use Rattle.ov_index.specs.KeyOrder.{index_total, index_exact}
+use Rattle.ov_index.proofs.IdMaps.{get-with_ids}
 
 -- ---- keys
 
@@ -32,7 +33,7 @@ id_tied : (a b : Uuid) → eq_by_cmp id_cmp a b ≡ bytes_eq b a
 id_tied a b = (eq_by_cmp_equiv name_cmp_total).symm a b ∙ sym (texts_ties b a)
 
 -- no row is at any key
-pub none_indexed : (key : IndexKey) (id : Uuid) → is_indexed empty key id ≡ false
+pub none_indexed : (key : IndexKey) (id : Uuid) → is_indexed (empty {R = index_cmp}) key id ≡ false
 none_indexed key id = ap (is_some_and (λ (ids : IdSet). contains_key ids id)) (get-empty index_cmp key)
 
 -- ---- one more
@@ -85,49 +86,33 @@ module _ (indexes : Indexes) (e : IndexEntry) (key : IndexKey) (id : Uuid) where
   without_given false None = refl
   without_given false (Some tt) = refl
 
-  indexed-lacking : is_indexed (lacking (get indexes e.key) e indexes) key id ≡ (is_indexed indexes key id && not (is_entry key id e))
-  indexed-lacking = turn (get indexes e.key) refl (eq_by_cmp index_cmp key e.key) refl
+  in_no_row : (set : IdSet) → (len set == 0) ≡ true → false ≡ contains_key set id
+  in_no_row set none = sym (ap (λ (s : IdSet). contains_key s id) (empty_of_len set (zero_is (len set) none)) ∙ ap is_some (get-empty id_cmp id))
+
+  -- of those at the key of the entry its row alone is not left
+  stands_left : (o : Option IdSet) → stands_in (ids_left o e.id) ≡ (stands_in o && not (bytes_eq e.id id))
+  stands_left None = refl
+  stands_left (Some set) = by (len (remove set e.id) == 0) refl ∙ fewer
     where
-      here : (o : Option IdSet) → get indexes e.key ≡ o → eq_by_cmp index_cmp key e.key ≡ true → is_indexed indexes key id ≡ stands_in o
-      here o has is = ap (λ k. is_indexed indexes k id) (index_exact key e.key (equal_is _ is)) ∙ ap stands_in has
-
-      beside : eq_by_cmp index_cmp key e.key ≡ false → is_indexed indexes key id ≡ (is_indexed indexes key id && not (is_entry key id e))
-      beside is = and_true (is_indexed indexes key id) ∙ ap (λ b. is_indexed indexes key id && not (b && bytes_eq e.id id)) (sym (same_at false is))
-
-      less : (set : IdSet) (b : Bool) → eq_by_cmp index_cmp key e.key ≡ b → is_indexed (insert indexes e.key (remove set e.id)) key id ≡ stands_in (cond b (Some (remove set e.id)) (get indexes key))
-      less set b is = ap stands_in (get-insert index_total indexes e.key (remove set e.id) key ∙ ap (λ t. cond t (Some (remove set e.id)) (get indexes key)) is)
-
-      turn : (o : Option IdSet) → get indexes e.key ≡ o → (b : Bool) → eq_by_cmp index_cmp key e.key ≡ b → is_indexed (lacking o e indexes) key id ≡ (is_indexed indexes key id && not (is_entry key id e))
-      turn None has true is = here None has is ∙ sym (ap (λ b. b && not (is_entry key id e)) (here None has is))
-      turn None has false is = beside is
-      turn (Some set) has true is =
-          less set true is ∙ ap is_some (get-remove name_cmp_total set e.id id) ∙ without_given (eq_by_cmp id_cmp id e.id) (get set id)
-          ∙ (λ i. sym (here (Some set) has is) i && not (sym (same_at true is) i && id_tied id e.id i))
-      turn (Some set) has false is = less set false is ∙ beside is
-
--- a key without rows
-module _ (indexes : Indexes) (at : IndexKey) (key : IndexKey) (id : Uuid) where
-  abbrev found_in : Option IdSet → Bool
-  found_in o = is_some_and (λ set. contains_key set id) o
-
-  nobody : (o : Option IdSet) → has_no_rows o ≡ true → false ≡ found_in o
-  nobody None h = refl
-  nobody (Some set) h = sym (ap (λ (s : IdSet). contains_key s id) (empty_of_len set (zero_is (len set) h)) ∙ ap is_some (get-empty id_cmp id))
-
-  indexed-without_none : is_indexed (without_none at indexes) key id ≡ is_indexed indexes key id
-  indexed-without_none = by (has_no_rows (get indexes at)) refl
-    where
-      turn : has_no_rows (get indexes at) ≡ true → (b : Bool) → eq_by_cmp index_cmp key at ≡ b → found_in (cond b None (get indexes key)) ≡ found_in (get indexes key)
-      turn none true is = nobody (get indexes at) none ∙ ap (λ k. is_indexed indexes k id) (sym (index_exact key at (equal_is _ is)))
-      turn none false is = refl
-
-      by : (b : Bool) → has_no_rows (get indexes at) ≡ b → is_indexed (cond b (remove indexes at) indexes) key id ≡ is_indexed indexes key id
-      by true none = ap found_in (get-remove index_total indexes at key) ∙ turn none (eq_by_cmp index_cmp key at) refl
+      by : (b : Bool) → (len (remove set e.id) == 0) ≡ b → stands_in (cond b None (Some (remove set e.id))) ≡ contains_key (remove set e.id) id
+      by true none = in_no_row (remove set e.id) none
       by false some = refl
 
--- all rows are where they were, except this one
-pub indexed-without : (indexes : Indexes) (e : IndexEntry) (key : IndexKey) (id : Uuid) → is_indexed (without_entry e indexes) key id ≡ (is_indexed indexes key id && not (is_entry key id e))
-indexed-without indexes e key id = indexed-without_none (lacking (get indexes e.key) e indexes) e.key key id ∙ indexed-lacking indexes e key id
+      fewer : contains_key (remove set e.id) id ≡ (contains_key set id && not (bytes_eq e.id id))
+      fewer =
+          ap is_some (get-remove name_cmp_total set e.id id) ∙ without_given (eq_by_cmp id_cmp id e.id) (get set id)
+          ∙ ap (λ b. contains_key set id && not b) (id_tied id e.id)
+
+  -- all rows are where they were, except this one
+  pub indexed-without : is_indexed (without_entry e indexes) key id ≡ (is_indexed indexes key id && not (is_entry key id e))
+  indexed-without = ap stands_in (get-with_ids index_total indexes e.key (ids_left (get indexes e.key) e.id) key) ∙ turn (eq_by_cmp index_cmp key e.key) refl
+    where
+      turn : (b : Bool) → eq_by_cmp index_cmp key e.key ≡ b
+          → stands_in (cond b (ids_left (get indexes e.key) e.id) (get indexes key)) ≡ (is_indexed indexes key id && not (is_entry key id e))
+      turn true is =
+          stands_left (get indexes e.key)
+          ∙ (λ i. stands_in (get indexes (sym (index_exact key e.key (equal_is _ is)) i)) && not (sym (same_at true is) i && bytes_eq e.id id))
+      turn false is = and_true (is_indexed indexes key id) ∙ ap (λ b. is_indexed indexes key id && not (b && bytes_eq e.id id)) (sym (same_at false is))
 
 -- ---- several
 

@@ -1,4 +1,7 @@
 pub mod IdSets
+pub mod SeenKeys
+pub mod Nesting
+pub mod IdMaps
 pub mod IndexMaps
 pub mod Kept
 pub mod RowEntries

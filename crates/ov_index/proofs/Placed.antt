@@ -6,6 +6,7 @@ use Rattle.std.specs.List.{list_any}
 use Rattle.std.specs.Ordering.{eq_by_cmp}
 use Rattle.std.specs.Str.{bytes_eq}
 use Rattle.std.proofs.lemmas.Bool.{and_parts}
+use Rattle.std.proofs.lemmas.List.Folds.{list_any-append}
 use Rattle.std.proofs.lemmas.Slice.Eq.{bytes_eq-Decides}
 use Rattle.ov_specs.specs.rows.Database.{Row, Database}
 use Rattle.ov_specs.specs.rows.Lines.{LineKey, line_cmp}
@@ -19,11 +20,6 @@ use Rattle.ov_index.specs.IndexKeys.{IndexKey, IndexEntry, same_index_key}
 use Rattle.ov_index.specs.Indexing.{Indexes, is_indexed, AreIndexesOf, without_entries}
 use Rattle.ov_index.proofs.Kept.{same_key-is, or_false, and_true, or_three, indexed-with, indexed-without_entries}
 use Rattle.ov_index.proofs.RowEntries.{is_row, row_entry, any_at}
-
--- what holds of one of two lists
-pub any-append : {A : Type 0} (test : A → Bool) (xs ys : List A) → list_any test (xs ++ ys) ≡ (list_any test xs || list_any test ys)
-any-append test [] ys = refl
-any-append test (x ∷ xs) ys = ap (λ b. test x || b) (any-append test xs ys) ∙ sym (or_three (test x) (list_any test xs) (list_any test ys))
 
 -- ---- one entry
 
@@ -51,7 +47,7 @@ module _ (e : IndexEntry) (indexes : Indexes) where
   -- and listed
   pub same-one : (added more : List IndexEntry) (after : Indexes) → false ≡ is_indexed indexes e.key e.id → after ≡ with_entry e indexes → more ≡ added ++ e ∷ [] → IsSameWithout added indexes more after
   same-one added more after not_there put listed key id =
-      (λ i. added-one after put key id i && not ((ap (has_entry key id) listed ∙ any-append (is_entry key id) added (e ∷ [])) i)) ∙ by (is_entry key id e) refl
+      (λ i. added-one after put key id i && not ((ap (has_entry key id) listed ∙ list_any-append (is_entry key id) added (e ∷ [])) i)) ∙ by (is_entry key id e) refl
     where
       by : (s : Bool) → is_entry key id e ≡ s → ((is_indexed indexes key id || (s || false)) && not (has_entry key id added || (s || false))) ≡ (is_indexed indexes key id && not (has_entry key id added))
       by false is = λ i. sym (or_false (is_indexed indexes key id)) i && not (sym (or_false (has_entry key id added)) i)
@@ -115,7 +111,7 @@ module _ (new : List IndexEntry) (e : IndexEntry) (left all before now : List In
   -- one that goes
   pub gone-next : (more : List IndexEntry) → false ≡ has_entry e.key e.id new → more ≡ now ++ e ∷ [] → AreGoneTo new left more all before
   gone-next more not_new_one listed key id =
-      ap (λ b. b || not_new new left key id) (ap (has_entry key id) listed ∙ any-append (is_entry key id) now (e ∷ [])) ∙ by (is_entry key id e) refl ∙ so key id
+      ap (λ b. b || not_new new left key id) (ap (has_entry key id) listed ∙ list_any-append (is_entry key id) now (e ∷ [])) ∙ by (is_entry key id e) refl ∙ so key id
     where
       by : (s : Bool) → is_entry key id e ≡ s
           → ((has_entry key id now || (s || false)) || not_new new left key id) ≡ (has_entry key id now || ((s || has_entry key id left) && not (has_entry key id new)))

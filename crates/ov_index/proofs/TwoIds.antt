@@ -14,6 +14,7 @@ use Rattle.ov_specs.specs.values.Uuid.{Uuid}
 use Rattle.ov_specs.proofs.laws.Names.{name_cmp_total, name_exact}
 use Rattle.ov_specs.proofs.laws.Truths.{left_holds, less_is, equal_is}
 use Rattle.ov_index.specs.Indexing.{IdSet}
+use Rattle.ov_index.proofs.Nesting.{any-map}
 use Rattle.ov_index.proofs.MapEntries.{contradicts, any_entry_is, entry_is_any}
 
 abbrev Marks : Type 0
@@ -75,10 +76,6 @@ one_id ids some = by (entries ids) (ap (λ n. n == 0) (sym (len-entries ids)) �
     by (e ∷ es) more are = (e.0, are e.0 ∙ has_first e es)
 
 -- ---- what holds of one of them
-
-any-map : {A B : Type 0} (test : B → Bool) (f : A → B) (xs : List A) → list_any test (map f xs) ≡ list_any (λ x. test (f x)) xs
-any-map test f [] = refl
-any-map test f (x ∷ xs) = ap (λ b. test (f x) || b) (any-map test f xs)
 
 pub any_id_is : (test : Uuid → Bool) (ids : IdSet) → list_any test (keys ids) ≡ true → (a : Uuid) × (contains_key ids a ≡ true) × (test a ≡ true)
 any_id_is test ids any =

@@ -1,10 +1,10 @@
 -- How entries of indexes are collected row by row; for private clauses.
 use Rattle.std.specs.Prelude.{◌≡◌, ℕ, ◌+◌, nat_lt, ◌&&◌, ◌||◌, not, List, [], ◌∷◌, Bool, Option, Some, None}
-use Rattle.std.specs.FinMap.{get, insert, len, keys, contains_key, from_sorted}
+use Rattle.std.specs.FinMap.{get, len, keys, contains_key, from_sorted}
 use Rattle.std.specs.List.{list_any}
 use Rattle.std.specs.Str.{bytes_eq}
 use Rattle.ov_index.specs.IndexKeys.{IndexKey, IndexEntry, same_index_key, key_at}
-use Rattle.ov_index.specs.Indexing.{IdSet, Indexes, ids_at, is_indexed}
+use Rattle.ov_index.specs.Indexing.{IdSet, Indexes, ids_at, is_indexed, with_id}
 use Rattle.ov_specs.specs.rows.Database.{Columns, Row}
 use Rattle.ov_specs.specs.rows.Lines.{LineKey, line_cmp}
 use Rattle.ov_specs.specs.schema.Schema.{is_some_and, is_empty}
@@ -31,7 +31,7 @@ entries_in (Some table) key columns = entries_from 0 key.0 table.indexes key.1 c
 
 -- with one more row at the key of the entry
 abbrev pub with_entry : IndexEntry → Indexes → Indexes
-with_entry entry indexes = insert indexes entry.key (insert (ids_at indexes entry.key) entry.id tt)
+with_entry entry indexes = with_id entry.key entry.id indexes
 
 -- with these entries
 abbrev pub with_entries : List IndexEntry → Indexes → Indexes
@@ -69,7 +69,7 @@ AreMoreGone old new gone more = (key : IndexKey) (id : Uuid) → has_entry key i
 -- ---- keys with two rows
 
 -- some key has two rows
-abbrev pub has_two : List (IndexKey × IdSet) → Bool
+abbrev pub has_two : {K : Type 0} → List (K × IdSet) → Bool
 has_two = list_any (λ e. nat_lt 1 (len e.1))
 
 -- the indexes have a row at the key that is not changed

@@ -8,6 +8,7 @@ use Rattle.std.specs.Ordering.{nat_cmp, eq_by_cmp, ordering_then}
 use Rattle.std.specs.declared.cmp.Ordering.{Ordering}
 use Rattle.ov_specs.specs.codes.ValueCode.{datum_code}
 use Rattle.ov_specs.specs.rows.Database.{Columns}
+use Rattle.ov_specs.specs.schema.SchemaTypes.{name_cmp}
 use Rattle.ov_specs.specs.values.Uuid.{Uuid}
 use Rattle.ov_specs.specs.values.Value.{Datum, datum_cmp}
 
@@ -17,9 +18,25 @@ pub record IndexKey : Type 0 where
   pub number : ℕ
   pub values : List Datum
 
--- the order of keys: by the values, one by one, then by the number, then by the bytes of the table's name
+-- values of the columns of an index, with its number
+abbrev pub NumberedValues : Type 0
+NumberedValues = ℕ × List Datum
+
+-- the order of values, one by one
+abbrev pub values_cmp : List Datum → List Datum → Ordering
+values_cmp = slice_cmp datum_cmp
+
+-- their order: by the number, then by the values
+abbrev pub numbered_cmp : NumberedValues → NumberedValues → Ordering
+numbered_cmp a b = ordering_then (nat_cmp a.0 b.0) (values_cmp a.1 b.1)
+
+-- the order of keys: by the bytes of the table's name, then by the number, then by the values
 abbrev pub index_cmp : IndexKey → IndexKey → Ordering
-index_cmp a b = ordering_then (slice_cmp datum_cmp a.values b.values) (ordering_then (nat_cmp a.number b.number) (slice_cmp nat_cmp a.table b.table))
+index_cmp a b = ordering_then (name_cmp a.table b.table) (numbered_cmp (a.number, a.values) (b.number, b.values))
+
+-- the key of these values in the index of this number of the table of this name
+abbrev pub index_key : List ℕ → ℕ → List Datum → IndexKey
+index_key table number values = record { table = table; number = number; values = values }
 
 -- the same key
 abbrev pub same_index_key : IndexKey → IndexKey → Bool
@@ -31,7 +48,7 @@ values_in index columns = filter_map (λ name. get columns name) index
 
 -- the key of a row with these columns in the index of this number of the table of this name
 abbrev pub key_at : List ℕ → ℕ → List (List ℕ) → Columns → IndexKey
-key_at table number index columns = record { table = table; number = number; values = values_in index columns }
+key_at table number index columns = index_key table number (values_in index columns)
 
 -- a key, and the identifier of a row at it
 pub record IndexEntry : Type 0 where
@@ -40,11 +57,19 @@ pub record IndexEntry : Type 0 where
 
 -- ---- how models store them
 
+-- values as a list
+abbrev pub values_code : Coded (List Datum)
+values_code = coded_list datum_code
+
+-- values with a number as a pair
+abbrev pub numbered_code : Coded NumberedValues
+numbered_code = coded× coded_ℕ values_code
+
 -- a key as nested pairs
 abbrev pub index_key_code : Coded IndexKey
 index_key_code =
-    code_by (List ℕ × (ℕ × List Datum)) (coded× (coded_list coded_ℕ) (coded× coded_ℕ (coded_list datum_code)))
-    (λ k. (k.table, (k.number, k.values))) (λ p. record { table = p.0; number = p.1.0; values = p.1.1 }) (λ _. refl)
+    code_by (List ℕ × NumberedValues) (coded× (coded_list coded_ℕ) numbered_code)
+    (λ k. (k.table, (k.number, k.values))) (λ p. index_key p.0 p.1.0 p.1.1) (λ _. refl)
 
 -- an entry as a pair
 abbrev pub index_entry_code : Coded IndexEntry

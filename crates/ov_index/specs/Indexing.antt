@@ -1,9 +1,10 @@
 -- Rows by their values in the indexes of their tables, as a map.
-use Rattle.std.specs.Prelude.{◌≡◌, ◌==◌, List, [], ◌∷◌, map, Bool, if◌then◌else◌, Option, Some, None, slice_get, unwrap_or}
+use Rattle.std.specs.Prelude.{◌≡◌, ◌==◌, List, [], ◌∷◌, map, Bool, if◌then◌else◌, Option, Some, None, option_map, slice_get, unwrap_or}
 use Rattle.std.specs.Coded.{Coded, coded_ℕ, coded_list}
 use base.Stored.{coded_unit}
 use Rattle.std.specs.FinMap as map
 use Rattle.std.specs.FinMap.{FinMap, empty, get, contains_key, insert, remove, len}
+use Rattle.std.specs.declared.cmp.Ordering.{Ordering}
 use Rattle.ov_rows.specs.Nested.{id_cmp}
 use Rattle.ov_index.specs.IndexKeys.{IndexKey, IndexEntry, index_cmp, same_index_key, key_at, index_key_code}
 use Rattle.ov_specs.specs.rows.Database.{Columns, Row, Database}
@@ -20,13 +21,41 @@ IdSet = FinMap id_cmp (Unit {0})
 abbrev pub Indexes : Type 0
 Indexes = FinMap index_cmp IdSet
 
--- the rows at the key
-abbrev pub ids_at : Indexes → IndexKey → IdSet
-ids_at indexes key = unwrap_or (get indexes key) empty
+-- ---- sets of identifiers by keys of any kind
 
--- the row of this identifier is kept at the key
-abbrev pub is_indexed : Indexes → IndexKey → Uuid → Bool
-is_indexed indexes key id = is_some_and (λ ids. contains_key ids id) (get indexes key)
+module _ {K : Type 0} {R : K → K → Ordering} where
+  -- the rows at the key
+  abbrev pub ids_at : FinMap R IdSet → K → IdSet
+  ids_at indexes key = unwrap_or (get indexes key) empty
+
+  -- the row of this identifier is kept at the key
+  abbrev pub is_indexed : FinMap R IdSet → K → Uuid → Bool
+  is_indexed indexes key id = is_some_and (λ ids. contains_key ids id) (get indexes key)
+
+  -- with one more row at the key
+  abbrev pub with_id : K → Uuid → FinMap R IdSet → FinMap R IdSet
+  with_id key id indexes = insert indexes key (insert (ids_at indexes key) id tt)
+
+  -- with these rows at the key, or without the key
+  abbrev pub with_ids : K → Option IdSet → FinMap R IdSet → FinMap R IdSet
+  with_ids key None indexes = remove indexes key
+  with_ids key (Some ids) indexes = insert indexes key ids
+
+-- those at a key, if there is such a key, without this row
+abbrev pub lacking : Option IdSet → Uuid → Option IdSet
+lacking ids id = option_map (λ set. remove set id) ids
+
+-- there is such a key, and it has no row
+abbrev pub has_no_rows : Option IdSet → Bool
+has_no_rows ids = is_some_and (λ set. len set == 0) ids
+
+-- those that are left without this row, if any row is left
+abbrev pub ids_left : Option IdSet → Uuid → Option IdSet
+ids_left ids id = if has_no_rows (lacking ids id) then None else lacking ids id
+
+-- without the row at the key, and without the key if no row is left there
+abbrev pub without_id : {K : Type 0} {R : K → K → Ordering} → K → Uuid → FinMap R IdSet → FinMap R IdSet
+without_id key id indexes = with_ids key (ids_left (get indexes key) id) indexes
 
 -- ---- which rows they are of
 
@@ -49,22 +78,9 @@ AreIndexesOf schema rows indexes = (key : IndexKey) (id : Uuid) → is_indexed i
 
 -- ---- entries that are taken out
 
--- without the row of the entry among those at its key
-abbrev pub lacking : Option IdSet → IndexEntry → Indexes → Indexes
-lacking None entry indexes = indexes
-lacking (Some ids) entry indexes = insert indexes entry.key (remove ids entry.id)
-
--- there is such a key, and it has no row
-abbrev pub has_no_rows : Option IdSet → Bool
-has_no_rows ids = is_some_and (λ set. len set == 0) ids
-
--- without the key, if no row is left there
-abbrev pub without_none : IndexKey → Indexes → Indexes
-without_none key indexes = if has_no_rows (get indexes key) then remove indexes key else indexes
-
 -- without the entry
 abbrev pub without_entry : IndexEntry → Indexes → Indexes
-without_entry entry indexes = without_none entry.key (lacking (get indexes entry.key) entry indexes)
+without_entry entry indexes = without_id entry.key entry.id indexes
 
 -- without these entries
 abbrev pub without_entries : List IndexEntry → Indexes → Indexes
@@ -80,10 +96,6 @@ marked id = (id, tt)
 -- the set of an ascending list
 abbrev pub set_of_ids : List Uuid → IdSet
 set_of_ids ids = map.from_sorted {R = id_cmp} (map marked ids)
-
--- the map of an ascending list
-abbrev pub indexes_of : List (IndexKey × IdSet) → Indexes
-indexes_of es = map.from_sorted {R = index_cmp} es
 
 -- a set of identifiers, by its entries
 abbrev pub id_set_code : Coded IdSet

@@ -1,13 +1,17 @@
 ghost use Rattle.std.specs.Prelude.{◌≡◌, T, not, IfOk, OnOk};
-ghost use Rattle.std.specs.FinMap.{empty, contains_key, from_sorted, is_sorted};
+ghost use Rattle.std.specs.FinMap.{empty, entries, contains_key, from_sorted, is_sorted};
 ghost use Rattle.std.specs.List.{list_any};
 ghost use Rattle.ov_index.specs.Changing.{TellsAlike};
 ghost use Rattle.ov_index.specs.Collecting.{has_unchanged, is_shared, with_changes};
+ghost use Rattle.ov_index.specs.IndexKeys.{index_key};
+ghost use Rattle.ov_index.specs.Nested.{key_in_table};
 ghost use Rattle.ov_specs.specs.rows.Lines.{line_cmp};
 
 use crate::id_set::IdSet;
+use crate::ids_by_values::IdsByValues;
 use crate::indexes::Indexes;
-use crate::key::IndexKey;
+use crate::table_indexes::TableIndexes;
+use ov_atoms::Datum;
 use ov_rows::{Row, RowKey};
 use ov_schema::Schema;
 use std::alloc::{AllocError, Global};
@@ -70,35 +74,90 @@ fn is_any_unchanged(
     Ok(false)
 }
 
-/// Whether the key has a row that is not changed.
+/// Whether the table of this name has, at these values in the index of this number, a row that is not changed.
 fn has_unchanged(
     alloc: Global,
     indexes: &Indexes,
     changes: &BTreeMap<RowKey, Option<Row>>,
-    key: &IndexKey,
+    table: &str,
+    number: usize,
+    values: &[Datum],
 ) -> Result<bool, AllocError>
     requires ascend { T (is_sorted line_cmp changes.now.entries) }
-    ensures { IfOk result (λ has. has ≡ has_unchanged indexes.now changes.now.entries key.now) }
+    ensures { IfOk result (λ has. has
+        ≡ has_unchanged indexes.now changes.now.entries (index_key table.now number values.now)) }
 {
-    match indexes.at(key) {
-        Some(ids) => is_any_unchanged(alloc, changes, key.table(), ids.as_slice()),
+    match indexes.at(table, number, values) {
+        Some(ids) => is_any_unchanged(alloc, changes, table, ids.as_slice()),
         None => Ok(false),
     }
 }
 
-/// Whether the changes put two rows at a key, or one at a key that has a row they do not change.
+/// Whether the changes put two rows at a key, or one at a key that has a row they do not change. `ids` has the rows that the
+/// changes put there.
 fn is_shared(
     alloc: Global,
     indexes: &Indexes,
     changes: &BTreeMap<RowKey, Option<Row>>,
-    key: &IndexKey,
+    table: &str,
+    number: usize,
+    values: &[Datum],
     ids: &IdSet,
 ) -> Result<bool, AllocError>
     requires ascend { T (is_sorted line_cmp changes.now.entries) }
     ensures { IfOk result (λ is. is
-        ≡ is_shared indexes.now changes.now.entries (key.now, ids.now)) }
+        ≡ is_shared indexes.now changes.now.entries
+        (index_key table.now number values.now, ids.now)) }
 {
-    Ok(1 < ids.len() || has_unchanged(alloc, indexes, changes, key)?)
+    Ok(1 < ids.len() || has_unchanged(alloc, indexes, changes, table, number, values)?)
+}
+
+/// Whether the changes put two rows at some values in the index of this number of the table of this name, or one at values
+/// that a row has which they do not change. `new` has the rows in that index that the changes put.
+fn is_any_shared_in_index(
+    alloc: Global,
+    indexes: &Indexes,
+    changes: &BTreeMap<RowKey, Option<Row>>,
+    table: &str,
+    number: usize,
+    new: &IdsByValues,
+) -> Result<bool, AllocError>
+    requires ascend { T (is_sorted line_cmp changes.now.entries) }
+    ensures { IfOk result (λ is. is
+        ≡ list_any
+        (λ e. is_shared indexes.now changes.now.entries (index_key table.now number e.0, e.1))
+        (entries new.now)) }
+{
+    for (values, ids) in new.map() {
+        let values = values.as_slice();
+        if is_shared(alloc, indexes, changes, table, number, values, ids)? {
+            return Ok(true);
+        }
+    }
+    Ok(false)
+}
+
+/// Whether the changes put two rows at a key of the table of this name, or one at a key that has a row they do not change.
+/// `new` has the rows in its indexes that the changes put.
+fn is_any_shared_in_table(
+    alloc: Global,
+    indexes: &Indexes,
+    changes: &BTreeMap<RowKey, Option<Row>>,
+    table: &str,
+    new: &TableIndexes,
+) -> Result<bool, AllocError>
+    requires ascend { T (is_sorted line_cmp changes.now.entries) }
+    ensures { IfOk result (λ is. is
+        ≡ list_any
+        (λ e. is_shared indexes.now changes.now.entries (key_in_table table.now e.0, e.1))
+        (entries new.now)) }
+{
+    for (number, index) in new.map() {
+        if is_any_shared_in_index(alloc, indexes, changes, table, *number, index)? {
+            return Ok(true);
+        }
+    }
+    Ok(false)
 }
 
 /// Whether two rows of a table are alike in one of its indexes after the changes (RFC 7047, 3.2, `<table-schema>`, indexes).
@@ -112,8 +171,8 @@ pub fn are_made_alike(
 ) -> Result<bool, AllocError>
     ensures { IfOk result (TellsAlike schema.now indexes.now changes.now.entries) }
 {
-    for (key, ids) in indexes_of(alloc, schema, changes)?.map() {
-        if is_shared(alloc, indexes, changes, key, ids)? {
+    for (name, table) in indexes_of(alloc, schema, changes)?.tables() {
+        if is_any_shared_in_table(alloc, indexes, changes, name.as_str(), table)? {
             return Ok(true);
         }
     }

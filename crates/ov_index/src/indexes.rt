@@ -1,41 +1,48 @@
-ghost use Rattle.std.specs.Prelude.{◌≡◌, not, option_copied, IfOk, OnOk, OnErr};
-ghost use Rattle.std.specs.FinMap.{empty, get, remove, entries};
+ghost use Rattle.std.specs.Prelude.{◌≡◌, not, option_copied, string_bytes, IfOk, OnOk, OnErr};
+ghost use Rattle.std.specs.FinMap.{empty, get, entries};
 ghost use Rattle.ov_index.specs.Collecting.{entries_in, with_entry, with_entries, with_entries_of_rows};
-ghost use Rattle.ov_index.specs.Collecting.{has_indexes};
-ghost use Rattle.ov_index.specs.Indexing.{AreIndexesOf, is_indexed, lacking, has_no_rows};
+ghost use Rattle.ov_index.specs.Collecting.{has_indexes, has_two};
+ghost use Rattle.ov_index.specs.IndexKeys.{index_key};
+ghost use Rattle.ov_index.specs.Indexing.{AreIndexesOf, is_indexed, with_id};
 ghost use Rattle.ov_index.specs.Indexing.{without_entry, without_entries};
+ghost use Rattle.ov_index.specs.Nested.{all_entries, key_in_table};
 ghost use Rattle.ov_rows.specs.Nested.{in_table};
 
 use crate::entry::{IndexEntry, entries_of};
 use crate::id_set::IdSet;
-use crate::key::IndexKey;
+use crate::table_indexes::TableIndexes;
+use ov_atoms::Datum;
 use ov_rows::{Columns, RowKey, Rows, TableRows};
 use ov_schema::Schema;
 use std::alloc::{AllocError, Global};
 use std::collections::BTreeMap;
 use std::marker::Model;
+use uuid::Uuid;
 
 /// The rows of a database by their values in the indexes of their tables (RFC 7047, 3.2, `<table-schema>`, indexes). If a
 /// database is within its limits, each key has one row; during a commit it may have more.
 #[derive(Drop)]
 pub struct Indexes {
-    of: BTreeMap<IndexKey, IdSet>,
+    /// A table stays when its indexes have lost their last row.
+    tables: BTreeMap<String, TableIndexes>,
 }
 
 impl Model for Indexes {
-    ghost use Rattle.std.specs.Prelude.{T};
+    ghost use Rattle.std.specs.Prelude.{T, string_bytes};
     ghost use Rattle.std.specs.FinMap.{is_sorted};
-    ghost use Rattle.ov_index.specs.IndexKeys.{index_cmp};
     ghost use Rattle.ov_index.specs.Indexing as indexing;
-    ghost use Rattle.ov_index.specs.Indexing.{indexes_code, indexes_of};
+    ghost use Rattle.ov_index.specs.Indexing.{indexes_code};
+    ghost use Rattle.ov_index.specs.Nested.{by_table};
+    ghost use Rattle.ov_specs.specs.schema.SchemaTypes.{name_cmp};
 
     ghost Value = { indexing.Indexes };
 
     ghost coded = { indexes_code };
 
-    ghost view = { λ i. indexes_of i.of.entries };
+    ghost view = { λ i. by_table i.tables.entries };
 
-    ghost invariant = { λ i. T (is_sorted index_cmp i.of.entries) };
+    ghost invariant = { λ i.
+        T (is_sorted (λ a b. name_cmp (string_bytes a) (string_bytes b)) i.tables.entries) };
 }
 
 impl Indexes {
@@ -44,22 +51,65 @@ impl Indexes {
         ensures { result ≡ empty }
     {
         Indexes {
-            of: BTreeMap::new(alloc),
+            tables: BTreeMap::new(alloc),
         }
     }
 
-    /// The rows at the key, if there are any.
-    pub fn at(&self, key: &IndexKey) -> Option<&IdSet>
-        ensures { option_copied result ≡ get self.now key.now }
+    /// The rows that have these values in the columns of the index of this number, counted from 0, of the table of this name,
+    /// if there are any. Allocates nothing.
+    pub fn at(&self, table: &str, number: usize, values: &[Datum]) -> Option<&IdSet>
+        ensures { option_copied result ≡ get self.now (index_key table.now number values.now) }
     {
-        self.of.get(key)
+        match self.tables.get(table) {
+            Some(indexes) => indexes.at(number, values),
+            None => None,
+        }
     }
 
-    /// All keys that have rows, ascending, each with its rows.
-    pub fn map(&self) -> &BTreeMap<IndexKey, IdSet>
-        ensures { result.now.entries ≡ entries self.now }
+    /// The indexes of all tables that ever had a row in one, by the names of the tables, ascending.
+    pub(crate) fn tables(&self) -> &BTreeMap<String, TableIndexes>
+        ensures { all_entries (λ name. key_in_table (string_bytes name)) result.now.entries
+            ≡ entries self.now }
     {
-        &self.of
+        &self.tables
+    }
+
+    /// Whether some key has two rows.
+    pub(crate) fn has_two(&self) -> bool
+        ensures { result ≡ has_two (entries self.now) }
+    {
+        for (_name, table) in self.tables() {
+            if table.has_two() {
+                return true;
+            }
+        }
+        false
+    }
+
+    /// Adds the row at this key, unless it is there; returns whether it was added. If an allocation fails, nothing is changed.
+    fn add_at(
+        &mut self,
+        alloc: Global,
+        table: &str,
+        number: usize,
+        values: Vec<Datum>,
+        id: Uuid,
+    ) -> Result<bool, AllocError>
+        ensures ok { OnOk result (self.new
+            ≡ with_id (index_key table.now number values.items) id self.old) }
+        ensures is_new { IfOk result (λ is_new. is_new
+            ≡ not (is_indexed self.old (index_key table.now number values.items) id)) }
+        ensures err { OnErr result (self.new ≡ self.old) }
+    {
+        match self.tables.get_mut(table) {
+            Some(indexes) => indexes.add(alloc, number, values, id),
+            None => {
+                let indexes = TableIndexes::of(alloc, number, values, id)?;
+                self.tables
+                    .insert(String::from_str(alloc, table)?, indexes)?;
+                Ok(true)
+            }
+        }
     }
 
     /// Adds the row of the entry at its key, unless it is there; returns whether it was added. If an allocation fails,
@@ -71,13 +121,8 @@ impl Indexes {
         ensures err { OnErr result (self.new ≡ self.old) }
     {
         let IndexEntry { key, id } = entry;
-        match self.of.get_mut(&key) {
-            Some(ids) => ids.insert(id),
-            None => {
-                self.of.insert(key, IdSet::of(alloc, id)?)?;
-                Ok(true)
-            }
-        }
+        let (table, number, values) = key.into_parts();
+        self.add_at(alloc, table.as_str(), number, values, id)
     }
 
     /// Adds these entries.
@@ -152,33 +197,12 @@ impl Indexes {
         Ok(indexes)
     }
 
-    /// Removes the row of the entry from its key, and returns whether no row is left there.
-    fn lose(&mut self, entry: &IndexEntry) -> bool
-        ensures lost { self.new ≡ lacking (get self.old entry.now.key) entry.now self.old }
-        ensures left { result ≡ has_no_rows (get self.new entry.now.key) }
-    {
-        match self.of.get_mut(&entry.key) {
-            Some(ids) => {
-                ids.remove(entry.id);
-                ids.is_empty()
-            }
-            None => false,
-        }
-    }
-
-    /// Removes the key with all its rows.
-    fn drop_key(&mut self, key: &IndexKey)
-        ensures { self.new ≡ remove self.old key.now }
-    {
-        self.of.remove(key);
-    }
-
     /// Removes the entry, if it is there, and its key if no row is left.
     fn take_one_out(&mut self, entry: &IndexEntry)
         ensures { self.new ≡ without_entry entry.now self.old }
     {
-        if self.lose(entry) {
-            self.drop_key(&entry.key);
+        if let Some(indexes) = self.tables.get_mut(entry.key.table()) {
+            indexes.take_out(entry.key.number(), entry.key.values(), entry.id);
         }
     }
 

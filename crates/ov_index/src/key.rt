@@ -1,7 +1,6 @@
 ghost use Rattle.std.specs.Prelude.{◌≡◌, IfOk};
-ghost use Rattle.ov_index.specs.IndexKeys.{key_at};
+ghost use Rattle.ov_index.specs.IndexKeys.{index_key, key_at, values_in};
 
-use crate::key_values::KeyValues;
 use ov_atoms::Datum;
 use ov_base::Text;
 use ov_rows::Columns;
@@ -15,38 +14,21 @@ use std::marker::Model;
 pub struct IndexKey {
     table: Text,
     number: usize,
-    values: KeyValues,
+    values: Vec<Datum>,
 }
 
 impl Model for IndexKey {
     ghost use Rattle.ov_index.specs.IndexKeys as keys;
-    ghost use Rattle.ov_index.specs.IndexKeys.{index_key_code};
+    ghost use Rattle.ov_index.specs.IndexKeys.{index_key, index_key_code};
 
     ghost Value = { keys.IndexKey };
 
     ghost coded = { index_key_code };
 
-    ghost view = { λ k. record { table = k.table; number = k.number; values = k.values } };
+    ghost view = { λ k. index_key k.table k.number k.values.items };
 }
 
 impl IndexKey {
-    /// The key of these values in the index of this number of the table of this name.
-    pub fn new(
-        alloc: Global,
-        table: &str,
-        number: usize,
-        values: Vec<Datum>,
-    ) -> Result<IndexKey, AllocError>
-        ensures { IfOk result (λ key. key
-            ≡ record { table = table.now; number = number; values = values.items }) }
-    {
-        Ok(IndexKey {
-            table: Text::from_str(alloc, table)?,
-            number,
-            values: KeyValues::from_vec(values),
-        })
-    }
-
     /// The key of a row with these columns in this index, which has this number in the table of this name.
     pub fn at(
         alloc: Global,
@@ -60,7 +42,7 @@ impl IndexKey {
         Ok(IndexKey {
             table: Text::from_str(alloc, table)?,
             number,
-            values: KeyValues::of(alloc, index, columns)?,
+            values: values_in(alloc, index, columns)?,
         })
     }
 
@@ -92,9 +74,45 @@ impl IndexKey {
         Ok(IndexKey {
             table: Text::from_str(alloc, self.table.as_str())?,
             number: self.number,
-            values: self.values.copy(alloc)?,
+            values: copied(alloc, self.values.as_slice())?,
         })
     }
+
+    /// The table's name, the number of the index and the values, which are not copied.
+    pub(crate) fn into_parts(self) -> (Text, usize, Vec<Datum>)
+        ensures { index_key result.0 result.1 result.2.items ≡ self }
+    {
+        let IndexKey {
+            table,
+            number,
+            values,
+        } = self;
+        (table, number, values)
+    }
+}
+
+/// The values of a row in the columns of an index, in the index's order.
+fn values_in(alloc: Global, index: &[Text], columns: &Columns) -> Result<Vec<Datum>, AllocError>
+    ensures { IfOk result (λ values. values.items ≡ values_in index.now columns.now) }
+{
+    let mut values = Vec::with_capacity(alloc, index.len())?;
+    for name in index {
+        if let Some(datum) = columns.get(name.as_str()) {
+            values.push(datum.copy(alloc)?)?;
+        }
+    }
+    Ok(values)
+}
+
+/// A copy of these values.
+fn copied(alloc: Global, values: &[Datum]) -> Result<Vec<Datum>, AllocError>
+    ensures { IfOk result (λ copies. copies.items ≡ values.now) }
+{
+    let mut copies = Vec::with_capacity(alloc, values.len())?;
+    for datum in values {
+        copies.push(datum.copy(alloc)?)?;
+    }
+    Ok(copies)
 }
 
 impl PartialEq for IndexKey {
@@ -127,7 +145,8 @@ impl PartialOrd for IndexKey {
 
     ghost partial_cmp = { λ a b. Some (index_cmp a b) };
 
-    ghost laws = { partial_order_from_agreeing_total index_cmp index_total (λ a b. refl) (λ a b. refl) };
+    ghost laws = { partial_order_from_agreeing_total index_cmp index_total (λ a b. refl)
+        (λ a b. refl) };
 
     fn partial_cmp(&self, other: &IndexKey) -> Option<Ordering> {
         Some(self.cmp(other))
@@ -147,15 +166,14 @@ impl Ord for IndexKey {
 
     ghost matches_eq = { λ a b. refl };
 
-    /// Compares the values, one by one, then the number of the index, then the bytes of the table's name. Most keys that are
-    /// compared belong to one index and differ in a value.
+    /// Compares the bytes of the tables' names, then the numbers of the indexes, then the values, one by one.
     fn cmp(&self, other: &IndexKey) -> Ordering {
-        match self.values.as_slice().cmp(other.values.as_slice()) {
+        match self.table.as_str().cmp(other.table.as_str()) {
             Ordering::Equal => match self.number.cmp(&other.number) {
-                Ordering::Equal => self.table.as_str().cmp(other.table.as_str()),
+                Ordering::Equal => self.values.as_slice().cmp(other.values.as_slice()),
                 by_number => by_number,
             },
-            by_values => by_values,
+            by_table => by_table,
         }
     }
 }

@@ -4,11 +4,12 @@
 mod alike;
 mod entry;
 mod id_set;
+mod ids_by_values;
 mod indexes;
 mod key;
-mod key_values;
 mod limits;
 mod placing;
+mod table_indexes;
 
 pub use alike::are_made_alike;
 pub use entry::IndexEntry;

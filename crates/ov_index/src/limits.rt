@@ -1,19 +1,15 @@
 ghost use Rattle.std.specs.Prelude.{◌≡◌, length};
 ghost use Rattle.std.specs.FinMap.{get, entries};
 ghost use Rattle.std.specs.List.{list_any};
-ghost use Rattle.ov_index.specs.Collecting.{has_two};
 ghost use Rattle.ov_index.specs.Indexing.{AreIndexesOf};
 ghost use Rattle.ov_specs.specs.integrity.Limits.{rows_of, has_too_many, is_over_limits};
 ghost use Rattle.ov_specs.specs.rows.Suits.{Suits};
 ghost use Rattle.ov_specs.specs.schema.Schema.{is_some_and};
 
-use crate::id_set::IdSet;
 use crate::indexes::Indexes;
-use crate::key::IndexKey;
 use ov_base::Text;
 use ov_rows::Rows;
 use ov_schema::{Schema, Table};
-use std::collections::BTreeMap;
 
 /// The number of rows in the table of this name.
 fn count_of(rows: &Rows, name: &str) -> usize
@@ -70,18 +66,6 @@ fn have_too_many(schema: &Schema, rows: &Rows) -> bool
     is_any_too_many(schema, schema.tables(), rows)
 }
 
-/// Whether some key has two rows.
-fn has_two(map: &BTreeMap<IndexKey, IdSet>) -> bool
-    ensures { result ≡ has_two map.now.entries }
-{
-    for (_key, ids) in map {
-        if 1 < ids.len() {
-            return true;
-        }
-    }
-    false
-}
-
 /// Whether a table has more rows than its `maxRows`, or two that are alike in an index (RFC 7047, 3.2, `<table-schema>`,
 /// maxRows and indexes). The indexes must be those of the rows. Allocates nothing.
 pub fn is_over_limits(schema: &Schema, rows: &Rows, indexes: &Indexes) -> bool
@@ -89,5 +73,5 @@ pub fn is_over_limits(schema: &Schema, rows: &Rows, indexes: &Indexes) -> bool
     requires suits { Suits schema.now rows.now }
     ensures { result ≡ is_over_limits schema.now rows.now }
 {
-    have_too_many(schema, rows) || has_two(indexes.map())
+    have_too_many(schema, rows) || indexes.has_two()
 }

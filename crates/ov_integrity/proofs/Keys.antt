@@ -1,7 +1,5 @@
--- Whether two keys are one, and what holds of one of several.
-use Rattle.std.proofs.Common.{◌≡◌, List, [], ◌∷◌, Bool, true, false, ◌||◌, Option, Some, None, refl, sym, ap, ◌∙◌}
-use Rattle.std.proofs.lemmas.Bool.{or_left, or_right}
-use Rattle.std.specs.List.{list_any}
+-- Whether two keys are one.
+use Rattle.std.proofs.Common.{◌≡◌, Bool, true, false, Option, Some, None, refl, sym, ap, ◌∙◌}
 use Rattle.ov_specs.specs.rows.Database.{Row, same_key}
 use Rattle.ov_specs.specs.rows.Lines.{LineKey}
 use Rattle.ov_specs.proofs.laws.LineKeys.{same_key-is, same_key-itself}
@@ -33,12 +31,3 @@ same_key-turned a b = by (same_key a b) (same_key b a) refl refl
     by true y is turned = is ∙ sym (same_key-of b a (sym (same_key-is a b is)))
     by false true is turned = same_key-of a b (sym (same_key-is b a turned)) ∙ sym turned
     by false false is turned = is ∙ sym turned
-
--- what passes a test at a key passes it at one of several, if the key is one of them
-pub any_at_key : (test : LineKey → Bool) (key : LineKey) (keys : List LineKey) → list_any (same_key key) keys ≡ true → test key ≡ true → list_any test keys ≡ true
-any_at_key test key [] any passes = cc
-any_at_key test key (other ∷ keys) any passes = by (same_key key other) refl any (λ later. any_at_key test key keys later passes)
-  where
-    by : (b : Bool) → same_key key other ≡ b → (b || list_any (same_key key) keys) ≡ true → (list_any (same_key key) keys ≡ true → list_any test keys ≡ true) → (test other || list_any test keys) ≡ true
-    by true same any others = or_left (test other) (list_any test keys) (ap test (sym (same_key-is key other same)) ∙ passes)
-    by false same any others = or_right (test other) (list_any test keys) (others any)

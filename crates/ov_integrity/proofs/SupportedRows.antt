@@ -23,7 +23,8 @@ use Rattle.ov_integrity.specs.Changes.{Changes, AreChanges}
 use Rattle.ov_integrity.specs.Linked.{AreLinked, some_holds, is_unchanged_beside, is_there_beside}
 use Rattle.ov_integrity.specs.Supporting.{strong_keys, MayLack}
 use Rattle.ov_integrity.proofs.Fewer.{strong_ones_fewer, references_fewer}
-use Rattle.ov_integrity.proofs.HeldKeys.{passes_key, holder_passes, passes_holder, row_there}
+use Rattle.ov_refs.proofs.SetKeys.{passes_key}
+use Rattle.ov_integrity.proofs.HeldKeys.{holder_passes, passes_holder, row_there}
 use Rattle.ov_integrity.proofs.Keys.{contradicts, same_truth}
 use Rattle.ov_integrity.proofs.Lacking.{lacking_at_first}
 

@@ -48,7 +48,7 @@ impl Changes {
     {
         if target.is_strong {
             let from = RowKey::new(alloc, key.table(), key.id())?;
-            self.strong.add(alloc, target.key, from)?;
+            self.strong.add(alloc, &target.key, from)?;
         }
         Ok(())
     }

@@ -48,7 +48,7 @@ fn has_untouched(set: &KeySet, changes: &Delta) -> bool
 fn is_held_beside(links: &Links, changes: &Delta, key: &RowKey) -> bool
     ensures { result ≡ is_held_beside links.now.strong changes.now key.now }
 {
-    match links.strong().of(key) {
+    match links.strong().of(key.table(), key.id()) {
         Some(holders) => has_untouched(holders, changes),
         None => false,
     }

@@ -262,7 +262,7 @@ fn push_candidates(
         }
         return Ok(());
     }
-    match links.weak().of(key) {
+    match links.weak().of(key.table(), key.id()) {
         Some(holders) => push_keys(alloc, found, holders),
         None => Ok(()),
     }

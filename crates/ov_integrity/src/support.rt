@@ -63,7 +63,7 @@ fn is_held_by_unchanged(links: &Links, changes: &Changes, stage: &Stage<'_>, key
         ≡ some_holds links.now.strong key.now
         (is_unchanged_beside stage.now.now changes.now.keys key.now) }
 {
-    match links.strong().of(key) {
+    match links.strong().of(key.table(), key.id()) {
         Some(holders) => has_unchanged_beside(holders, changes, stage, key),
         None => false,
     }
@@ -74,7 +74,7 @@ fn is_held_by_changed(changes: &Changes, stage: &Stage<'_>, key: &RowKey) -> boo
     ensures { result
         ≡ some_holds changes.now.strong key.now (is_there_beside stage.now.now key.now) }
 {
-    match changes.strong().of(key) {
+    match changes.strong().of(key.table(), key.id()) {
         Some(holders) => has_beside(holders, stage, key),
         None => false,
     }

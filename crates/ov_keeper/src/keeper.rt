@@ -1,8 +1,8 @@
 ghost use Rattle.std.specs.Prelude.{◌≡◌, ◌⊎◌, ◌<◌, ◌≤◌, ◌-◌, ◌^◌, ℕ, IfOk, IfErr, OnOk, OnErr};
 ghost use Rattle.ov_specs.specs.rows.Cells.{Stored, format_of, rewritten};
 ghost use Rattle.ov_keeper.specs.Views.{changes_view, lines_view};
-ghost use Rattle.ov_keeper.specs.Keeping.{LeavesNoMore, LeavesMade, LeavesRefused, IsCommitFault};
-ghost use Rattle.ov_keeper.specs.Keeping.{IsLoadFault};
+ghost use Rattle.ov_keeper.specs.Keeping.{HasFailed, LeavesNoMore, LeavesMade, LeavesRefused};
+ghost use Rattle.ov_keeper.specs.Keeping.{IsCommitFault, IsLoadFault};
 ghost use Rattle.ov_keeper.specs.Keeping.{changed, loaded_contents};
 
 use crate::cell_line::CellLine;
@@ -65,8 +65,8 @@ pub trait Keeper {
             (λ loaded. format_of (lines_view loaded.lines) ≡ format self.new) }
         ensures kinds { IfErr result IsLoadFault }
         // A failure of the device has a cause: its count rises, unless it is at its maximum.
-        ensures cause { result ≡ Err KeepFault.Device → (failed self.old < failed self.new)
-            ⊎ (failed self.old ≡ 2 ^ 64 - 1) }
+        ensures cause { result ≡ Err KeepFault.Device
+            → HasFailed (failed self.old) (failed self.new) }
         ensures counts { failed self.old ≤ failed self.new }
         ensures honest { is_honest self.new → is_honest self.old };
 
@@ -84,8 +84,8 @@ pub trait Keeper {
         ensures same_format { format self.new ≡ format self.old }
         ensures kinds { IfErr result IsCommitFault }
         // A failure of the device has a cause: its count rises, unless it is at its maximum.
-        ensures cause { result ≡ Err KeepFault.Device → (failed self.old < failed self.new)
-            ⊎ (failed self.old ≡ 2 ^ 64 - 1) }
+        ensures cause { result ≡ Err KeepFault.Device
+            → HasFailed (failed self.old) (failed self.new) }
         ensures counts { failed self.old ≤ failed self.new }
         ensures honest { is_honest self.new → is_honest self.old };
 
@@ -102,8 +102,8 @@ pub trait Keeper {
         ensures same_format { OnErr result (format self.new ≡ format self.old) }
         ensures kinds { IfErr result IsCommitFault }
         // A failure of the device has a cause: its count rises, unless it is at its maximum.
-        ensures cause { result ≡ Err KeepFault.Device → (failed self.old < failed self.new)
-            ⊎ (failed self.old ≡ 2 ^ 64 - 1) }
+        ensures cause { result ≡ Err KeepFault.Device
+            → HasFailed (failed self.old) (failed self.new) }
         ensures counts { failed self.old ≤ failed self.new }
         ensures honest { is_honest self.new → is_honest self.old };
 

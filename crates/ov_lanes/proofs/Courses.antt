@@ -112,10 +112,10 @@ module _ {K D : Type 0} {first a b : CoreState K D} (p : Since first a) where
   }
 
   -- it is at its moment
-  pub entered_timed : (at : ℕ) (e : Entry) (x : EnteredTo p e b) → IsAtMoment at a.state.moment e.choice.moment e.event → AreTimed at a.state (e ∷ []) b.state
+  pub entered_timed : (at : ℕ) (e : Entry) (x : EnteredTo p e b) → IsAtMoment at a.state e.choice.moment e.event → AreTimed at a.state (e ∷ []) b.state
   entered_timed at e x is = timed_one at a.state e (record { state = b.state; sent = x.sent }) x.stepped is
 
-  abbrev goes_entered : (at n : ℕ) (e : Entry) (x : EnteredTo p e b) → IsAtMoment at a.state.moment e.choice.moment e.event → ((t : ℕ) → t ≢ n → MayClose t a.state e (record { state = b.state; sent = x.sent }) []) → Goes at n p b
+  abbrev goes_entered : (at n : ℕ) (e : Entry) (x : EnteredTo p e b) → IsAtMoment at a.state e.choice.moment e.event → ((t : ℕ) → t ≢ n → MayClose t a.state e (record { state = b.state; sent = x.sent }) []) → Goes at n p b
   goes_entered at n e x is may = record { after = x.after; more = e ∷ []; adds = x.adds; timed = entered_timed at e x is; counts = x.counts; beside = λ t ne. spared e x t (may t ne) }
 
 -- ---- parts of what is done
@@ -275,7 +275,7 @@ module _ {K D : Type 0} {first a : CoreState K D} (at n : ℕ) (p : Since first 
       let asks : requests x.after.entries n ≡ requests p.entries n ++ message ∷ [] =
       x.asks n ∙ ap (λ (l : List Message). requests p.entries n ++ l) (ap (taken_by n) is ∙ ap (λ (k : Bool). cond k (message ∷ []) []) (eq-eqb n n refl)) in
       record {
-        goes = goes_entered p at n e x (at_moment at a.state.moment e.choice.moment e.event (Take n message) is when) (λ k ne. turn_take_other k a.state e t x.stepped n message (λ same. ne (sym same)) is);
+        goes = goes_entered p at n e x (at_moment at a.state e.choice.moment e.event (Take n message) is when) (λ k ne. turn_take_other k a.state e t x.stepped n message (λ same. ne (sym same)) is);
         own = record {
           more = frames_to n x.sent;
           waiting = x.waiting n;
@@ -294,7 +294,7 @@ module _ {K D : Type 0} {first a : CoreState K D} (at n : ℕ) (p : Since first 
       let t : Stepped = record { state = b.state; sent = x.sent } in
       let turn = turn_close n a.state e t x.stepped machine.Memory is in
       record {
-        goes = goes_entered p at n e x (at_moment at a.state.moment e.choice.moment e.event (Close n machine.Memory) is (inr (refl, when))) (λ k ne. inl (turn_close_other k a.state e t x.stepped n machine.Memory (λ same. ne (sym same)) is));
+        goes = goes_entered p at n e x (at_moment at a.state e.choice.moment e.event (Close n machine.Memory) is (inr (refl, when))) (λ k ne. inl (turn_close_other k a.state e t x.stepped n machine.Memory (λ same. ne (sym same)) is));
         own = record {
           more = frames_to n x.sent;
           waiting = x.waiting n;
@@ -338,15 +338,15 @@ pub record Passes {K D : Type 0} {first a : CoreState K D} (at : ℕ) (p : Since
   pub all : (n : ℕ) → Spares (course_of p n) (course_of after n)
 
 module _ {K D : Type 0} {first a : CoreState K D} (at : ℕ) (p : Since first a) where
-  passes_by_entry : (b : CoreState K D) (e : Entry) → EntersEntry a e b → e.choice.moment ≡ max at a.state.moment → e.event ≡ Tick → Passes at p b
-  passes_by_entry b e m when is =
+  passes_by_entry : (b : CoreState K D) (e : Entry) → EntersEntry a e b → e.choice.moment ≡ max at a.state.moment → e.event ≡ Tick → is_due at a.state ≡ true → Passes at p b
+  passes_by_entry b e m when is due =
       let x = since_enters p e m in
       let t : Stepped = record { state = b.state; sent = x.sent } in
       record {
         after = x.after;
         more = e ∷ [];
         adds = x.adds;
-        timed = entered_timed p at e x (at_moment at a.state.moment e.choice.moment e.event Tick is when);
+        timed = entered_timed p at e x (at_moment at a.state e.choice.moment e.event Tick is (when, due));
         counts = x.counts;
         all = λ n. spared p e x n (turn_tick n a.state e t x.stepped is);
       }
@@ -354,11 +354,11 @@ module _ {K D : Type 0} {first a : CoreState K D} (at : ℕ) (p : Since first a)
   passes_none : Passes at p a
   passes_none = record { after = p; more = []; adds = sym (append-nil p.entries); timed = refl; counts = counts_none a; all = λ n. spares_same (course_of p n) }
 
-  pub passes : (draws : D → Uuid → D → Type 0) (b : CoreState K D) (r : Result Bool StepFault) → IfOk r (λ ticks. TicksIf draws ticks at a b)
+  pub passes : (draws : D → Uuid → D → Type 0) (b : CoreState K D) (r : Result Bool StepFault) → IfOk r (λ ticks. TicksIf draws ticks at a b) → IfOk r (λ ticks. ticks ≡ is_due at a.state)
       → IfErr r (λ fault. (b ≡ a) × (is_due at a.state ≡ true) × RefusesStep Tick a.state fault) → Passes at p b
-  passes draws b (Ok true) ticks refused = passes_by_entry b ticks.entry ticks.moves ticks.moment ticks.tells
-  passes draws b (Ok false) ticks refused = subst (λ (k : CoreState K D). Passes at p k) (sym ticks) passes_none
-  passes draws b (Err fault) ticks refused = subst (λ (k : CoreState K D). Passes at p k) (sym refused.0) passes_none
+  passes draws b (Ok true) ticks due refused = passes_by_entry b ticks.entry ticks.moves ticks.moment ticks.tells (sym due)
+  passes draws b (Ok false) ticks due refused = subst (λ (k : CoreState K D). Passes at p k) (sym ticks) passes_none
+  passes draws b (Err fault) ticks due refused = subst (λ (k : CoreState K D). Passes at p k) (sym refused.0) passes_none
 
 -- ---- what calls of the core say
 

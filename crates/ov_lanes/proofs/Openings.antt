@@ -87,7 +87,7 @@ module _ {K D : Type 0} {start a b : CoreState K D} (p : Since start a) (e : Ent
 
   -- it was opened at the last moment
   pub opened_timed : e.choice.moment ≡ a.state.moment → (reported : ℕ) → AreTimed reported a.state (e ∷ []) b.state
-  opened_timed when reported = entered_timed p reported e x (at_moment reported a.state.moment e.choice.moment e.event machine.Open is when)
+  opened_timed when reported = entered_timed p reported e x (at_moment reported a.state e.choice.moment e.event machine.Open is when)
 
   untouched_still : ((n : ℕ) → IsUntouched (course_of p n)) → (n : ℕ) → IsUntouched (course_of x.after n)
   untouched_still untouched n = let u = untouched n in (closed_same n ∙ u.0, asks_same n ∙ u.1, x.handed n ∙ u.2)

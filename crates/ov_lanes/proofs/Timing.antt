@@ -4,12 +4,12 @@ use Rattle.ov_specs.specs.machine.Machine as machine
 use Rattle.ov_specs.specs.machine.Machine.{State, Entry, Stepped, step}
 use Rattle.ov_lanes.specs.Moments.{IsAtMoment, AreTimed, AreTimedBy, Tells}
 
-pub timed_one : (at : ℕ) (s : State) (e : Entry) (t : Stepped) → step s e ≡ Some t → IsAtMoment at s.moment e.choice.moment e.event → AreTimed at s (e ∷ []) t.state
+pub timed_one : (at : ℕ) (s : State) (e : Entry) (t : Stepped) → step s e ≡ Some t → IsAtMoment at s e.choice.moment e.event → AreTimed at s (e ∷ []) t.state
 timed_one at s e t h is = (t, h, is, refl)
 
 -- the event is this one
-pub at_moment : (at last moment : ℕ) (event event' : machine.Event) → event ≡ event' → IsAtMoment at last moment event' → IsAtMoment at last moment event
-at_moment at last moment event event' is h = subst (λ (x : machine.Event). IsAtMoment at last moment x) (sym is) h
+pub at_moment : (at : ℕ) (s : State) (moment : ℕ) (event event' : machine.Event) → event ≡ event' → IsAtMoment at s moment event' → IsAtMoment at s moment event
+at_moment at s moment event event' is h = subst (λ (x : machine.Event). IsAtMoment at s moment x) (sym is) h
 
 pub timed_append : (at : ℕ) (s : State) (xs ys : List Entry) (mid new : State) → AreTimed at s xs mid → AreTimed at mid ys new → AreTimed at s (xs ++ ys) new
 timed_append at s [] ys mid new x y = subst (λ (k : State). AreTimed at k ys new) x y

@@ -22,7 +22,7 @@ pub struct Lane {
     pub ended: bool,
     /// Whether the end mark was put.
     pub marked: bool,
-    /// Whether something was put since its writer was last told so.
+    /// Whether something was put since its writer was last woken.
     pub news: bool,
     ghost room: { marked ≡ false → 0 < known_free outbound },
     ghost places: { 1025 ≤ known_free outbound + length (sent outbound) },

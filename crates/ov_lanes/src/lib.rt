@@ -1,5 +1,6 @@
 //! The desk's side of its sessions' rings: what it takes from them goes into the core, and what the core sends goes into
-//! them. Also what is served: a desk, and the two ends of a session. This crate starts no thread and never waits.
+//! them. Also what is served: a desk, the two ends of a session, and who gives them. This crate starts no thread and never
+//! waits.
 #![tactic(auto)]
 
 mod desk;
@@ -7,6 +8,7 @@ mod fault;
 mod lane;
 mod lanes;
 mod link;
+mod listen;
 mod moves;
 mod open;
 mod places;
@@ -16,5 +18,6 @@ pub use fault::ServeFault;
 pub use lane::Lane;
 pub use lanes::{are_over, free_place, place_of};
 pub use link::Link;
+pub use listen::Listen;
 pub use open::{open_sessions, shows_nothing_opened};
 pub use places::has_places;

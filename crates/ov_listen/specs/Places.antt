@@ -1,7 +1,7 @@
 -- What comes of a keeper when sessions of its database are served.
 use Rattle.std.specs.Prelude.{◌≡◌, ℕ}
 use Rattle.ov_specs.specs.rows.Cells.{Stored}
-use Rattle.ov_db.specs.Committing.{MayFind}
+use Rattle.ov_db.specs.Committing.{MayFindRows}
 use Rattle.ov_db.specs.declared.fault.RefusedOpen.{RefusedOpen}
 use Rattle.ov_core.specs.Following.{CoreState, with_clock}
 use Rattle.ov_core.specs.Leaving.{LeavesItsOwn}
@@ -35,7 +35,7 @@ module _ {K D C : Type 0} (e : Environment K D C) where
     pub honest : e.keeper.is_honest ended.core.keeper → e.keeper.is_honest first.keeper
     pub leaves : e.keeper.is_honest ended.core.keeper → (held : Stored) → e.keeper.leaves ended.core.keeper held → LeavesItsOwn ended.core.state held
     pub some : e.keeper.is_honest ended.core.keeper → ∥ ((held : Stored) × e.keeper.leaves ended.core.keeper held) ∥₁
-    pub finds : e.keeper.is_honest ended.core.keeper → MayFind (e.keeper.leaves ended.core.keeper) ended.core.state.schema ended.core.state.database ended.core.state.sealed
+    pub finds : e.keeper.is_honest ended.core.keeper → MayFindRows (e.keeper.leaves ended.core.keeper) ended.core.state.schema ended.core.state.database ended.core.state.sealed
 
   -- no core was opened over the keeper
   abbrev pub RefusesPlace : K → Offer D → RefusedOpen K → Type 0

@@ -60,7 +60,7 @@ where
 /// fails, nothing is lost: the file and its log belong together, as after a kill. If the file is refused, nothing is read or
 /// written, the server does not listen, and nothing is copied into the file.
 ///
-/// The contract ties no path to a file, so that the file which is opened and closed is the one at the path is not in it.
+/// No contract ties a path to a file, so none says that the file which is opened and closed is the one at the path.
 pub fn serve_file<R, T, D, S, W, C>(
     host: &HostRuntime,
     rt: &R,

@@ -34,7 +34,11 @@ impl<'a> Model for Mutation<'a> {
 
     ghost coded = { mutation_code };
 
-    ghost view = { λ m. record { column = m.name; type_of = m.column.now.type_of; change = value_change_view m.change } };
+    ghost view = { λ m. record {
+      column = m.name;
+      type_of = m.column.now.type_of;
+      change = value_change_view m.change;
+    } };
 }
 
 impl<'a> Mutation<'a> {

@@ -205,7 +205,7 @@ impl Ord for ShownRow {
 
     ghost matches_eq = { λ a b. refl };
 
-    /// Column by column, by name and then by value.
+    /// Compares column by column: the name, then the value.
     fn cmp(&self, other: &ShownRow) -> Ordering {
         self.columns.as_slice().cmp(other.columns.as_slice())
     }

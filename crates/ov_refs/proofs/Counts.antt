@@ -15,7 +15,6 @@ use Rattle.ov_specs.specs.values.Capped.{capped_to_64_bits}
 use Rattle.ov_refs.specs.Holding.{KeySet}
 use Rattle.ov_refs.specs.Linking.{Links, AreLinksOf}
 use Rattle.ov_refs.specs.Placed.{targets_at}
-use Rattle.ov_refs.proofs.Collecting.{same_key-tied}
 use Rattle.ov_refs.proofs.RowKeys.{each_found, in_set, keys_of_rows}
 
 -- nothing more is counted
@@ -78,7 +77,7 @@ module _ (schema : Schema) (rows : Database) (to : LineKey) where
   referring r = refers_strongly schema r to
 
   own-is : (r : LineKey × Row) → get rows r.0 ≡ Some r.1 → hits_beside schema rows to r.0 ≡ cond (same_key r.0 to) 0 (hits to (row_targets schema r))
-  own-is r there = λ i. cond (sym (same_key-tied r.0 to) i) 0 (hits to (targets_at schema r.0 (there i)))
+  own-is r there = λ i. cond (same_key r.0 to) 0 (hits to (targets_at schema r.0 (there i)))
 
   -- the rows that refer to it have all references that keep it
   of_rows : (rs : List (LineKey × Row)) → AllByRecursion (λ r. get rows r.0 ≡ Some r.1) rs

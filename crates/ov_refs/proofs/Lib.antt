@@ -5,4 +5,7 @@ pub mod Collecting
 pub mod RowKeys
 pub mod Counts
 pub mod Placing
+pub mod SetKeys
+pub mod ByTables
+pub mod HeldInOrder
 pub mod WholeLinks

@@ -1,13 +1,12 @@
 -- Whether the references of a database are whole, judged by its links.
-use Rattle.std.proofs.Common.{◌≡◌, ◌==◌, ℕ, length, List, [], ◌∷◌, ◌++◌, flat_map, Bool, true, false, cond, T, ◌&&◌, ◌||◌, not, ◌⊎◌, inl, inr, Option, Some, None, is_some, refl, sym, ap, ◌∙◌, Less, Greater}
+use Rattle.std.proofs.Common.{◌≡◌, ◌↔◌, ◌==◌, ℕ, suc, length, List, [], ◌∷◌, flat_map, Bool, true, false, cond, T, ◌&&◌, ◌||◌, not, ◌⊎◌, inl, inr, Option, Some, None, is_some, IsTrue, refl, sym, ap, ◌∙◌, arith}
 use Rattle.std.proofs.lemmas.Bool.{and_parts, and_from, or_left, or_right, or_cases, not-true, not_from_false}
 use Rattle.std.proofs.lemmas.List.Folds.{list_all-append, list_all-map}
 use Rattle.std.proofs.lemmas.Option.{same_Some}
 use Rattle.std.specs.Cmp.{both_ways}
-use Rattle.std.specs.FinMap.{FinMap, find, is_sorted, get, contains_key, entries, len, remove, empty_of_len, entries_sorted, get-entries, get-empty, get-remove, len-entries}
-use Rattle.std.specs.FinMap.Entries.{below_all}
+use Rattle.std.specs.FinMap.{FinMap, find, is_sorted, get, contains_key, entries, len, empty_of_len, entries_sorted, get-entries, get-empty, len-entries}
 use Rattle.std.specs.List.{list_all}
-use Rattle.std.specs.Ordering.{eq_by_cmp, ordering_reverse}
+use Rattle.std.specs.Ordering.{eq_by_cmp}
 use Rattle.ov_specs.specs.integrity.Kept.{is_in_root_table, is_supported}
 use Rattle.ov_specs.specs.integrity.References.{Target, RowReference, row_targets, row_references, references, refers_strongly}
 use Rattle.ov_specs.specs.rows.Database.{Row, Database, same_key}
@@ -16,17 +15,18 @@ use Rattle.ov_specs.specs.schema.Schema.{is_some_and}
 use Rattle.ov_specs.specs.schema.SchemaTypes.{Schema}
 use Rattle.ov_specs.specs.values.Uuid.{Uuid}
 use Rattle.ov_specs.proofs.laws.Following.{Supporter, support_is, is_support}
-use Rattle.ov_specs.proofs.laws.FoundRows.{EachRow}
-use Rattle.ov_specs.proofs.laws.LineKeys.{key_total, tied_same, same_tied}
+use Rattle.ov_specs.proofs.laws.LineKeys.{tied_same, same_tied}
 use Rattle.ov_specs.proofs.laws.References.{all_rows_are, are_all_rows}
-use Rattle.ov_specs.proofs.laws.Truths.{left_holds, right_holds, less_is, zero_is}
-use Rattle.ov_rows.specs.Nested.{in_table}
-use Rattle.ov_refs.specs.Holding.{KeySet, Holders}
+use Rattle.ov_specs.proofs.laws.Truths.{left_holds, right_holds, zero_is}
+use Rattle.ov_rows.specs.Nested.{TableRows, id_cmp, in_table}
+use Rattle.ov_refs.specs.Holding.{KeySet, Holders, TableHolders}
 use Rattle.ov_refs.specs.Linking.{Links, AreLinksOf}
 use Rattle.ov_refs.specs.Placed.{is_target, has_target, targets_at, refers}
-use Rattle.ov_refs.specs.Whole.{is_there, has_another, past, is_held, are_supported}
+use Rattle.ov_refs.specs.Whole.{is_there, has_another, is_root_or_held, are_held}
 use Rattle.ov_refs.proofs.Collecting.{same_key-tied, find-below}
-use Rattle.ov_refs.proofs.Placing.{same_key-is, same_key-turned, target_is, links_at}
+use Rattle.ov_refs.proofs.HeldInOrder.{held_found_each}
+use Rattle.ov_refs.proofs.Placing.{target_is, links_at}
+use Rattle.ov_refs.proofs.SetKeys.{key_passes, passes_key}
 
 -- ---- what is found at keys
 
@@ -94,128 +94,36 @@ has_some set key has = by (len set == 0) refl
     by true is =
         absurd (contradicts (contains_key set key) has (ap (λ (s : KeySet). contains_key s key) (empty_of_len set (zero_is (len set) is)) ∙ ap is_some (get-empty line_cmp key)))
 
-contains-remove : (set : KeySet) (gone key : LineKey) → contains_key (remove set gone) key ≡ is_some (cond (same_key key gone) None (get set key))
-contains-remove set gone key = ap is_some (get-remove key_total set gone key) ∙ ap (λ b. is_some (cond b None (get set key))) (sym (same_key-tied key gone))
-
-other_key : (set : KeySet) (key : LineKey) → has_another key set ≡ true → (from : LineKey) × (contains_key set from ≡ true) × (same_key from key ≡ false)
-other_key set key another =
-    let some = some_key (remove set key) (not-true (len (remove set key) == 0) another) in
-    by some.0 (same_key some.0 key) refl (sym (contains-remove set key some.0) ∙ some.1)
-  where
-    by : (from : LineKey) (b : Bool) → same_key from key ≡ b → is_some (cond (same_key from key) None (get set from)) ≡ true → (from : LineKey) × (contains_key set from ≡ true) × (same_key from key ≡ false)
-    by from true is has = absurd (contradicts (is_some (cond (same_key from key) None (get set from))) has (ap (λ b. is_some (cond b None (get set from))) is))
-    by from false is has = (from, sym (ap (λ b. is_some (cond b None (get set from))) is) ∙ has, is)
-
-another_of : (set : KeySet) (key from : LineKey) → contains_key set from ≡ true → same_key from key ≡ false → has_another key set ≡ true
-another_of set key from has other =
-    not_from_false (len (remove set key) == 0) (has_some (remove set key) from (contains-remove set key from ∙ ap (λ b. is_some (cond b None (get set from))) other ∙ has))
-
--- ---- holders that are gone through in order
-
--- another row is among those that are listed for the row
-abbrev pub held_in : List (LineKey × KeySet) → LineKey → Bool
-held_in hs key = is_some_and (has_another key) (find line_cmp key hs)
-
-same_as_tied : (a b : LineKey) → same_key a b ≡ eq_by_cmp line_cmp b a
-same_as_tied a b = same_key-turned a b ∙ same_key-tied b a
-
-held_found : (key : LineKey) (hs : List (LineKey × KeySet)) → is_held key hs ≡ held_in hs key
-held_found key [] = refl
-held_found key (h ∷ hs) = ap (λ b. cond b (has_another key h.1) (is_held key hs)) (same_as_tied h.0 key) ∙ by (eq_by_cmp line_cmp key h.0) (held_found key hs)
-  where
-    by : (b : Bool) → is_held key hs ≡ held_in hs key → cond b (has_another key h.1) (is_held key hs) ≡ is_some_and (has_another key) (cond b (Some h.1) (find line_cmp key hs))
-    by true later = refl
-    by false later = later
-
-not_both : (a b : LineKey) → line_cmp a b ≡ Less → line_cmp b a ≡ Less → ⊥
-not_both a b up down = differ (sym up ∙ key_total.antisymm a b ∙ ap ordering_reverse down)
-  where
-    differ : Less ≡ Greater → ⊥
-    differ e = cc
-
--- a greater key is another one
-apart : (a b : LineKey) → line_cmp a b ≡ Less → eq_by_cmp line_cmp b a ≡ false
-apart a b up = by (eq_by_cmp line_cmp b a) refl
-  where
-    by : (t : Bool) → eq_by_cmp line_cmp b a ≡ t → t ≡ false
-    by false is = refl
-    by true is = absurd (not_both a b up ((λ i. line_cmp (tied_same b a is i) (sym (tied_same b a is) i)) ∙ up))
-
--- what is found after a key that is below all is above it
-above : (key q : LineKey) (hs : List (LineKey × KeySet)) → T (below_all line_cmp key hs) → is_held q hs ≡ true → line_cmp key q ≡ Less
-above key q [] h held = cc
-above key q (e ∷ hs) h held = by (same_key e.0 q) refl held (above key q hs (right_holds _ _ h))
-  where
-    by : (b : Bool) → same_key e.0 q ≡ b → cond b (has_another q e.1) (is_held q hs) ≡ true → (is_held q hs ≡ true → line_cmp key q ≡ Less) → line_cmp key q ≡ Less
-    by true is held later = ap (line_cmp key) (sym (same_key-is e.0 q is)) ∙ less_is (line_cmp key e.0) (left_holds _ _ h)
-    by false is held later = later held
-
--- greater keys are found after it as they are in all
-find-after : (key q : LineKey) (hs : List (LineKey × KeySet)) → T (is_sorted line_cmp hs) → line_cmp key q ≡ Less → is_held key hs ≡ true → find line_cmp q (past key hs) ≡ find line_cmp q hs
-find-after key q [] h up held = refl
-find-after key q (e ∷ hs) h up held = by (same_key e.0 key) refl held (find-after key q hs (right_holds _ _ h) up)
-  where
-    skip : line_cmp e.0 q ≡ Less → find line_cmp q hs ≡ find line_cmp q (e ∷ hs)
-    skip less = sym (ap (λ b. cond b (Some e.1) (find line_cmp q hs)) (apart e.0 q less))
-
-    by : (b : Bool) → same_key e.0 key ≡ b → cond b (has_another key e.1) (is_held key hs) ≡ true → (is_held key hs ≡ true → find line_cmp q (past key hs) ≡ find line_cmp q hs)
-        → find line_cmp q (cond b hs (past key hs)) ≡ find line_cmp q (e ∷ hs)
-    by true is held later = skip (ap (λ k. line_cmp k q) (same_key-is e.0 key is) ∙ up)
-    by false is held later = later held ∙ skip (key_total.trans e.0 key q (above e.0 key hs (left_holds _ _ h) held) up)
-
-sorted-after : (key : LineKey) (hs : List (LineKey × KeySet)) → T (is_sorted line_cmp hs) → T (is_sorted line_cmp (past key hs))
-sorted-after key [] h = tt
-sorted-after key (e ∷ hs) h = by (same_key e.0 key) (sorted-after key hs (right_holds _ _ h))
-  where
-    by : (b : Bool) → T (is_sorted line_cmp (past key hs)) → T (is_sorted line_cmp (cond b hs (past key hs)))
-    by true later = right_holds _ _ h
-    by false later = later
-
 -- ---- rows that are supported
 
--- each of these rows has the same holders in both lists
-abbrev pub AreSameIn : List (LineKey × KeySet) → List (LineKey × KeySet) → List (LineKey × Row) → Type 0
-AreSameIn all hs = EachRow (λ key row. find line_cmp key hs ≡ find line_cmp key all)
+module _ (schema : Schema) (strong : Holders) (name : List ℕ) where
+  -- the rows of a root table are
+  pub root_table : (rs : List (Uuid × Row)) → is_some_and (λ table. table.is_root) (get schema.tables name) ≡ true → true ≡ list_all (is_root_or_held schema strong) (in_table name rs)
+  root_table [] root = refl
+  root_table (r ∷ rs) root = root_table rs root ∙ ap (λ b. (b || is_some_and (has_another (name, r.0)) (get strong (name, r.0))) && list_all (is_root_or_held schema strong) (in_table name rs)) (sym root)
 
-same_itself : (all : List (LineKey × KeySet)) (rs : List (LineKey × Row)) → AreSameIn all all rs
-same_itself all [] = tt
-same_itself all (r ∷ rs) = (refl, same_itself all rs)
+  module _ (not_root : is_some_and (λ table. table.is_root) (get schema.tables name) ≡ false) where
+    -- those of another table are if another row is among their holders
+    by_holders : (held : Uuid → Bool) (rs : List (Uuid × Row)) → ((id : Uuid) → held id ≡ is_some_and (has_another (name, id)) (get strong (name, id)))
+        → list_all (λ r. held r.0) rs ≡ list_all (is_root_or_held schema strong) (in_table name rs)
+    by_holders held [] is = refl
+    by_holders held (r ∷ rs) is =
+        (λ i. is r.0 i && by_holders held rs is i) ∙ ap (λ b. (b || is_some_and (has_another (name, r.0)) (get strong (name, r.0))) && list_all (is_root_or_held schema strong) (in_table name rs)) (sym not_root)
 
-same_after : (all hs : List (LineKey × KeySet)) (key : LineKey) (rs : List (LineKey × Row)) → T (is_sorted line_cmp hs) → T (below_all line_cmp key rs) → is_held key hs ≡ true → AreSameIn all hs rs
-    → AreSameIn all (past key hs) rs
-same_after all hs key [] h up held same = tt
-same_after all hs key (r ∷ rs) h up held same =
-    (find-after key r.0 hs h (less_is (line_cmp key r.0) (left_holds _ _ up)) held ∙ same.0, same_after all hs key rs h (right_holds _ _ up) held same.1)
+    pub held_table : (rows : TableRows) (holders : TableHolders) → ((id : Uuid) → get holders id ≡ get strong (name, id))
+        → are_held name (entries rows) (entries holders) ≡ list_all (is_root_or_held schema strong) (in_table name (entries rows))
+    held_table rows holders are =
+        held_found_each name (entries holders) (entries rows) (entries_sorted rows) (entries_sorted holders)
+        ∙ by_holders (λ id. is_some_and (has_another (name, id)) (find id_cmp id (entries holders))) (entries rows) (λ id. ap (is_some_and (has_another (name, id))) (sym (get-entries holders id) ∙ are id))
 
-module _ (schema : Schema) (all : List (LineKey × KeySet)) where
-  -- the row is in a root table or has another row among its holders
-  abbrev pub is_root_or_held : LineKey × Row → Bool
-  is_root_or_held r = is_in_root_table schema r.0 || held_in all r.0
-
-  kept_each : (rs : List (LineKey × Row)) (hs : List (LineKey × KeySet)) → T (is_sorted line_cmp rs) → T (is_sorted line_cmp hs) → AreSameIn all hs rs → are_supported schema rs hs ≡ list_all is_root_or_held rs
-  kept_each [] hs sorted h same = refl
-  kept_each (r ∷ rs) hs sorted h same = by_root (is_in_root_table schema r.0) (kept_each rs)
-    where
-      Later : Type 0
-      Later = (hs : List (LineKey × KeySet)) → T (is_sorted line_cmp rs) → T (is_sorted line_cmp hs) → AreSameIn all hs rs → are_supported schema rs hs ≡ list_all is_root_or_held rs
-
-      held : is_held r.0 hs ≡ held_in all r.0
-      held = held_found r.0 hs ∙ ap (is_some_and (has_another r.0)) same.0
-
-      by_held : (b : Bool) → is_held r.0 hs ≡ b → Later → (b && are_supported schema rs (past r.0 hs)) ≡ (b && list_all is_root_or_held rs)
-      by_held true is later = later (past r.0 hs) (right_holds _ _ sorted) (sorted-after r.0 hs h) (same_after all hs r.0 rs h (left_holds _ _ sorted) is same.1)
-      by_held false is later = refl
-
-      by_root : (b : Bool) → Later → cond b (are_supported schema rs hs) (is_held r.0 hs && are_supported schema rs (past r.0 hs)) ≡ ((b || held_in all r.0) && list_all is_root_or_held rs)
-      by_root true later = later hs (right_holds _ _ sorted) h same.1
-      by_root false later = by_held (is_held r.0 hs) refl later ∙ ap (λ b. b && list_all is_root_or_held rs) held
-
--- the rows of a root table are skipped
-pub root_table : (schema : Schema) (name : List ℕ) (es : List (Uuid × Row)) (rest : List (LineKey × Row)) (hs : List (LineKey × KeySet)) → is_some_and (λ table. table.is_root) (get schema.tables name) ≡ true
-    → are_supported schema (in_table name es ++ rest) hs ≡ are_supported schema rest hs
-root_table schema name [] rest hs root = refl
-root_table schema name (e ∷ es) rest hs root =
-    ap (λ b. cond b (are_supported schema (in_table name es ++ rest) hs) (is_held (name, e.0) hs && are_supported schema (in_table name es ++ rest) (past (name, e.0) hs))) root ∙ root_table schema name es rest hs root
+    -- none is if no row refers to any of the table
+    pub held_by_none : (rs : List (Uuid × Row)) (b : Bool) → (IsTrue b ↔ (length rs ≡ 0)) → ((id : Uuid) → None ≡ get strong (name, id)) → b ≡ list_all (is_root_or_held schema strong) (in_table name rs)
+    held_by_none rs b is none = no_row rs b is ∙ by_holders (λ id. false) rs (λ id. ap (is_some_and (has_another (name, id))) (none id))
+      where
+        no_row : (rs : List (Uuid × Row)) (b : Bool) → (IsTrue b ↔ (length rs ≡ 0)) → b ≡ list_all (λ r. false) rs
+        no_row [] b is = is.1 refl
+        no_row (r ∷ rs) true is = let more : suc (length rs) ≡ 0 = is.0 refl in absurd (omega (arith, more))
+        no_row (r ∷ rs) false is = refl
 
 module _ (schema : Schema) (rows : Database) (links : Links) (linked : AreLinksOf schema rows links) where
   -- ---- support
@@ -223,22 +131,21 @@ module _ (schema : Schema) (rows : Database) (links : Links) (linked : AreLinksO
   held_is : (key : LineKey) → is_some_and (has_another key) (get links.strong key) ≡ true → Supporter schema rows key
   held_is key held =
       let set = some_is (has_another key) (get links.strong key) held in
-      let from = other_key set.0 key set.2 in
+      let from = key_passes set.0 (λ other. not (same_key other key)) set.2 in
       let row =
       some_is (λ (row : Row). refers_strongly schema (from.0, row) key) (get rows from.0)
       (sym (linked.strong key from.0) ∙ ap (is_some_and (λ (s : KeySet). contains_key s from.0)) set.1 ∙ from.1) in
-      (from.0, row.0, row.1, from.2, row.2)
+      (from.0, row.0, row.1, not-true (same_key from.0 key) from.2, row.2)
 
   is_held_by : (key : LineKey) → Supporter schema rows key → is_some_and (has_another key) (get links.strong key) ≡ true
   is_held_by key one =
       let holder = linked.strong key one.0 ∙ ap (is_some_and (λ (row : Row). refers_strongly schema (one.0, row) key)) one.2 ∙ one.4 in
       let set = some_is (λ (s : KeySet). contains_key s one.0) (get links.strong key) holder in
-      ap (is_some_and (has_another key)) set.1 ∙ another_of set.0 key one.0 set.2 one.3
+      ap (is_some_and (has_another key)) set.1 ∙ passes_key set.0 (λ other. not (same_key other key)) one.0 set.2 (not_from_false (same_key one.0 key) one.3)
 
-  kept_is : (key : LineKey) → (is_in_root_table schema key || held_in (entries links.strong) key) ≡ is_supported schema rows key
+  kept_is : (key : LineKey) → (is_in_root_table schema key || is_some_and (has_another key) (get links.strong key)) ≡ is_supported schema rows key
   kept_is key =
-      ap (λ o. is_in_root_table schema key || is_some_and (has_another key) o) (sym (get-entries links.strong key))
-      ∙ both_ways (is_in_root_table schema key || is_some_and (has_another key) (get links.strong key)) (is_supported schema rows key)
+      both_ways (is_in_root_table schema key || is_some_and (has_another key) (get links.strong key)) (is_supported schema rows key)
       (λ any. is_support schema rows key (there (or_cases (is_in_root_table schema key) (is_some_and (has_another key) (get links.strong key)) any)))
       (λ is. back (support_is schema rows key is))
     where
@@ -251,10 +158,8 @@ module _ (schema : Schema) (rows : Database) (links : Links) (linked : AreLinksO
       back (inr one) = or_right (is_in_root_table schema key) (is_some_and (has_another key) (get links.strong key)) (is_held_by key one)
 
   -- all rows are supported if the holders say so
-  pub supported_is : are_supported schema (entries rows) (entries links.strong) ≡ list_all (λ r. is_supported schema rows r.0) (entries rows)
-  supported_is =
-      kept_each schema (entries links.strong) (entries rows) (entries links.strong) (entries_sorted rows) (entries_sorted links.strong) (same_itself (entries links.strong) (entries rows))
-      ∙ (λ i. list_all (λ (r : LineKey × Row). kept_is r.0 i) (entries rows))
+  pub supported_is : list_all (is_root_or_held schema links.strong) (entries rows) ≡ list_all (λ r. is_supported schema rows r.0) (entries rows)
+  supported_is = λ i. list_all (λ (r : LineKey × Row). kept_is r.0 i) (entries rows)
 
   -- ---- references
 

@@ -1,12 +1,11 @@
 -- How many strong references lead to a row.
 use Rattle.std.specs.Prelude.{ℕ, ◌&&◌, List, if◌then◌else◌, count_by}
 use Rattle.std.specs.FinMap.{get}
-use Rattle.std.specs.Ordering.{eq_by_cmp}
 use Rattle.ov_refs.specs.Placed.{targets_at}
 use Rattle.ov_specs.specs.integrity.Kept.{supports}
 use Rattle.ov_specs.specs.integrity.References.{Target, references}
 use Rattle.ov_specs.specs.rows.Database.{Database, same_key}
-use Rattle.ov_specs.specs.rows.Lines.{LineKey, line_cmp}
+use Rattle.ov_specs.specs.rows.Lines.{LineKey}
 use Rattle.ov_specs.specs.schema.SchemaTypes.{Schema}
 
 -- how many strong references of different rows there are to the row of this key
@@ -25,4 +24,4 @@ hits_at schema rows to from = hits to (targets_at schema from (get rows from))
 
 -- the same, and none if it is that row itself
 abbrev pub hits_beside : Schema → Database → LineKey → LineKey → ℕ
-hits_beside schema rows to from = if eq_by_cmp line_cmp from to then 0 else hits_at schema rows to from
+hits_beside schema rows to from = if same_key from to then 0 else hits_at schema rows to from

@@ -4,8 +4,10 @@ use Rattle.std.specs.Coded.{Coded, coded×, coded_ℕ, coded_list}
 use base.Stored.{coded_unit}
 use Rattle.std.specs.FinMap as map
 use Rattle.std.specs.FinMap.{FinMap, empty, get, contains_key, insert, remove, len}
+use Rattle.std.specs.declared.cmp.Ordering.{Ordering}
 use Rattle.ov_specs.specs.rows.Lines.{LineKey, line_cmp}
 use Rattle.ov_specs.specs.schema.Schema.{is_some_and}
+use Rattle.ov_rows.specs.Nested.{OfTable}
 
 -- a set of keys
 abbrev pub KeySet : Type 0
@@ -23,39 +25,46 @@ set_of_keys keys = map.from_sorted {R = line_cmp} (map marked keys)
 abbrev pub Holders : Type 0
 Holders = FinMap line_cmp KeySet
 
--- the holders of an ascending list
-abbrev pub holders_of : List (LineKey × KeySet) → Holders
-holders_of es = map.from_sorted {R = line_cmp} es
+-- for each row of one table, by its identifier, the rows that refer to it
+abbrev pub TableHolders : Type 0
+TableHolders = OfTable KeySet
 
 -- `from` refers to `to`
 abbrev pub is_holder : Holders → LineKey → LineKey → Bool
 is_holder holders to from = is_some_and (λ set. contains_key set from) (get holders to)
 
--- with `from` among the rows that refer to `to`
-abbrev pub with_holder : LineKey → LineKey → Holders → Holders
-with_holder to from holders = insert holders to (insert (unwrap_or (get holders to) empty) from tt)
+-- ---- a change of the rows that refer to one row, which is found by its key, or in its table by its identifier
 
--- without_in_set `from` among the rows that refer to `to`
-abbrev pub fewer : Option KeySet → LineKey → LineKey → Holders → Holders
-fewer None to from holders = holders
-fewer (Some set) to from holders = insert holders to (remove set from)
+module _ {K : Type 0} {R : K → K → Ordering} where
+  -- with `from` among the rows that refer to `to`
+  abbrev pub with_holder : K → LineKey → FinMap R KeySet → FinMap R KeySet
+  with_holder to from holders = insert holders to (insert (unwrap_or (get holders to) empty) from tt)
 
--- without `from` among the rows that refer to `to`, which stays listed even if none is left
-abbrev pub with_fewer : LineKey → LineKey → Holders → Holders
-with_fewer to from holders = fewer (get holders to) to from holders
+  -- without `from` among the rows that refer to `to`
+  abbrev pub fewer : Option KeySet → K → LineKey → FinMap R KeySet → FinMap R KeySet
+  fewer None to from holders = holders
+  fewer (Some set) to from holders = insert holders to (remove set from)
 
--- without_in_set `from`; if it was the last one, `to` is no longer listed
-abbrev pub without_in_set : Option KeySet → LineKey → LineKey → Holders → Holders
-without_in_set None to from holders = holders
-without_in_set (Some set) to from holders = if len (remove set from) == 0 then remove holders to else insert holders to (remove set from)
+  -- without `from` among the rows that refer to `to`, which stays listed even if none is left
+  abbrev pub with_fewer : K → LineKey → FinMap R KeySet → FinMap R KeySet
+  with_fewer to from holders = fewer (get holders to) to from holders
 
--- without_in_set `from` among the rows that refer to `to`; if it was the last one, `to` is no longer listed
-abbrev pub without_holder : LineKey → LineKey → Holders → Holders
-without_holder to from holders = without_in_set (get holders to) to from holders
+  -- without `from`; if it was the last one, `to` is not listed
+  abbrev pub without_in_set : Option KeySet → K → LineKey → FinMap R KeySet → FinMap R KeySet
+  without_in_set None to from holders = holders
+  without_in_set (Some set) to from holders = if len (remove set from) == 0 then remove holders to else insert holders to (remove set from)
 
--- how models store them
+  -- without `from` among the rows that refer to `to`; if it was the last one, `to` is not listed
+  abbrev pub without_holder : K → LineKey → FinMap R KeySet → FinMap R KeySet
+  without_holder to from holders = without_in_set (get holders to) to from holders
+
+-- ---- how models store them
+
 abbrev pub key_set_code : Coded KeySet
 key_set_code = map.code (coded× (coded_list coded_ℕ) (coded_list coded_ℕ)) coded_unit
 
 abbrev pub holders_code : Coded Holders
 holders_code = map.code (coded× (coded_list coded_ℕ) (coded_list coded_ℕ)) key_set_code
+
+abbrev pub table_holders_code : Coded TableHolders
+table_holders_code = map.code (coded_list coded_ℕ) key_set_code

@@ -3,7 +3,9 @@ ghost use Rattle.std.specs.BTreeSet.{insert_key};
 ghost use Rattle.std.specs.List.Sorted.{IsStrictlySortedBy};
 ghost use Rattle.std.specs.FinMap.{empty, contains_key, insert, remove, keys, len};
 ghost use Rattle.ov_specs.specs.rows.Lines.{line_cmp};
+ghost use Rattle.ov_refs.specs.Whole.{has_another};
 
+use crate::borrowed_key::BorrowedKey;
 use crate::key_iter::KeyIter;
 use Keys::*;
 use ov_rows::RowKey;
@@ -97,16 +99,16 @@ impl KeySet {
         }
     }
 
-    /// The number of rows in the set, not counting this one.
-    pub fn count_beside(&self, key: &RowKey) -> usize
-        ensures { result ≡ len (remove self.now key.now) }
+    /// Whether the set has another row than this one. Looks at two keys at most.
+    pub(crate) fn has_another(&self, key: &BorrowedKey<'_>) -> bool
+        ensures { result ≡ has_another key.now self.now }
     {
-        let all = self.len();
-        if self.contains(key) {
-            all.saturating_sub(1)
-        } else {
-            all
+        for other in self.iter() {
+            if !key.is(other) {
+                return true;
+            }
         }
+        false
     }
 
     /// All keys, ascending.

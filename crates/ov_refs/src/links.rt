@@ -10,6 +10,7 @@ ghost use Rattle.ov_specs.specs.values.Capped.{capped_to_64_bits};
 ghost use Rattle.ov_refs.specs.Placed.{Adds, AreAlike, lost, refers, targets_at};
 ghost use Rattle.ov_rows.specs.Nested.{in_table};
 
+use crate::borrowed_key::BorrowedKey;
 use crate::counting::count_holders;
 use crate::holders::Holders;
 use crate::link_changes::LinkChanges;
@@ -22,6 +23,7 @@ use ov_schema::Schema;
 use std::alloc::{AllocError, Global};
 use std::collections::BTreeMap;
 use std::marker::Model;
+use uuid::Uuid;
 
 /// Which rows refer to which, strongly and weakly (RFC 7047, 3.2, `<base-type>`, refType).
 #[derive(Drop)]
@@ -66,14 +68,15 @@ impl Links {
         &self.weak
     }
 
-    /// The number of strong references from different rows to the row, which stays at 2^64-1 (RFC 7047, 3.2, `<base-type>`,
-    /// refType). The links are those of the rows. Reads only the rows that refer to it, and allocates nothing.
-    pub fn strong_count(&self, schema: &Schema, rows: &Rows, to: &RowKey) -> u64
+    /// The number of strong references from different rows to the row of this identifier in the table of this name, which
+    /// stays at 2^64-1 (RFC 7047, 3.2, `<base-type>`, refType). The links are those of the rows. Reads only the rows that
+    /// refer to it, and allocates nothing.
+    pub fn strong_count(&self, schema: &Schema, rows: &Rows, table: &str, id: Uuid) -> u64
         requires { AreLinksOf schema.now rows.now self.now }
-        ensures { result ≡ capped_to_64_bits (strong_count schema.now rows.now to.now) }
+        ensures { result ≡ capped_to_64_bits (strong_count schema.now rows.now (table.now, id)) }
     {
-        match self.strong.of(to) {
-            Some(holders) => count_holders(schema, rows, holders, to),
+        match self.strong.of(table, id) {
+            Some(holders) => count_holders(schema, rows, holders, &BorrowedKey::new(table, id)),
             None => 0,
         }
     }
@@ -90,15 +93,20 @@ impl Links {
     }
 
     /// Adds the reference from the row to the target. If an allocation fails, nothing is changed.
-    fn add_target(&mut self, alloc: Global, from: &RowKey, target: Target) -> Result<(), AllocError>
-        ensures ok { OnOk result (self.new ≡ with_target from.now target self.old) }
+    fn add_target(
+        &mut self,
+        alloc: Global,
+        from: &RowKey,
+        target: &Target,
+    ) -> Result<(), AllocError>
+        ensures ok { OnOk result (self.new ≡ with_target from.now target.now self.old) }
         ensures err { OnErr result (self.new ≡ self.old) }
     {
         let from = RowKey::new(alloc, from.table(), from.id())?;
         if target.is_strong {
-            self.strong.add(alloc, target.key, from)
+            self.strong.add(alloc, &target.key, from)
         } else {
-            self.weak.add(alloc, target.key, from)
+            self.weak.add(alloc, &target.key, from)
         }
     }
 
@@ -115,7 +123,7 @@ impl Links {
             self.old) }
     {
         for target in targets_of(alloc, schema, key.table(), columns)? {
-            self.add_target(alloc, key, target)?;
+            self.add_target(alloc, key, &target)?;
         }
         Ok(())
     }
@@ -166,7 +174,7 @@ impl Links {
         }
         added.reserve(1)?;
         let reference = RowReference::new(alloc, from, to.copied(alloc)?)?;
-        self.add_target(alloc, from, to.copied(alloc)?)?;
+        self.add_target(alloc, from, to)?;
         added.push_reserved(reference);
         Ok(())
     }

@@ -1,4 +1,4 @@
-ghost use Rattle.std.specs.Prelude.{◌≡◌, ◌++◌, ◌&&◌, List, IsTrue};
+ghost use Rattle.std.specs.Prelude.{◌≡◌, ◌&&◌, IsTrue};
 ghost use Rattle.std.specs.FinMap.{contains_key, entries, get};
 ghost use Rattle.std.specs.List.{list_all};
 ghost use Rattle.ov_rows.specs.Nested.{in_table};
@@ -6,24 +6,36 @@ ghost use Rattle.ov_refs.specs.Linking.{AreLinksOf};
 ghost use Rattle.ov_refs.specs.Whole as spec;
 ghost use Rattle.ov_specs.specs.integrity.Kept.{is_supported};
 ghost use Rattle.ov_specs.specs.integrity.References.{references};
-ghost use Rattle.ov_specs.specs.rows.Database.{Row};
-ghost use Rattle.ov_specs.specs.rows.Lines.{LineKey};
 ghost use Rattle.ov_specs.specs.schema.Schema.{is_some_and};
 
+use crate::borrowed_key::BorrowedKey;
 use crate::holders::Holders;
 use crate::key_set::KeySet;
 use crate::links::Links;
-use ov_rows::{RowKey, Rows, TableRows};
+use crate::table_holders::TableHolders;
+use ov_rows::{RowId, Rows, TableRows};
 use ov_schema::Schema;
 use std::collections::btree_map::Iter;
-use uuid::Uuid;
+
+/// Whether each row of the table of this name that is referred to exists.
+fn are_there_in(rows: &Rows, name: &str, holders: &TableHolders) -> bool
+    ensures { result
+        ≡ list_all (spec.is_there rows.now) (in_table name.now (entries holders.now)) }
+{
+    for (id, set) in holders.map() {
+        if !set.is_empty() && rows.row(name, *id.as_uuid()).is_none() {
+            return false;
+        }
+    }
+    true
+}
 
 /// Whether each row that is referred to exists.
 fn are_there(rows: &Rows, holders: &Holders) -> bool
     ensures { result ≡ list_all (spec.is_there rows.now) (entries holders.now) }
 {
-    for (to, set) in holders.map() {
-        if !set.is_empty() && !rows.contains(to) {
+    for (name, table) in holders.tables() {
+        if !are_there_in(rows, name.as_str(), table) {
             return false;
         }
     }
@@ -41,16 +53,30 @@ fn are_all_there(rows: &Rows, links: &Links) -> bool
 
 /// Advances past the holders of the row, and returns whether another row is among them. If the row has no holders there,
 /// nothing is left.
-fn is_held(holders: &mut Iter<'_, RowKey, KeySet>, table: &str, id: Uuid) -> bool
-    ensures held { result ≡ spec.is_held (table.now, id) holders.old }
-    ensures past { IsTrue result → holders.new ≡ spec.past (table.now, id) holders.old }
+fn is_held(holders: &mut Iter<'_, RowId, KeySet>, key: &BorrowedKey<'_>) -> bool
+    ensures held { result ≡ spec.is_held key.now holders.old }
+    ensures past { IsTrue result → holders.new ≡ spec.past key.now.1 holders.old }
 {
-    while let Some((to, set)) = holders.next() {
-        if to.table() == table && to.id() == id {
-            return set.count_beside(to) != 0;
+    while let Some((id, set)) = holders.next() {
+        if *id.as_uuid() == key.id() {
+            return set.has_another(key);
         }
     }
     false
+}
+
+/// Whether each of these rows of the table of this name has another row among its holders. Rows and holders are in the same
+/// order, so one pass over both is enough.
+fn are_held(name: &str, rows: &TableRows, holders: &TableHolders) -> bool
+    ensures { result ≡ spec.are_held name.now (entries rows.now) (entries holders.now) }
+{
+    let mut left = holders.map().iter();
+    for (id, _) in rows.map() {
+        if !is_held(&mut left, &BorrowedKey::new(name, *id.as_uuid())) {
+            return false;
+        }
+    }
+    true
 }
 
 /// Whether the table of this name is a root table.
@@ -63,38 +89,28 @@ fn is_root_table(schema: &Schema, name: &str) -> bool
     }
 }
 
-/// Whether the table is a root table, or each of its rows has another row among its holders, which are searched in ascending
-/// order.
-fn is_table_supported(
-    schema: &Schema,
-    name: &str,
-    rows: &TableRows,
-    holders: &mut Iter<'_, RowKey, KeySet>,
-) -> bool
-    ensures { (rest : List (LineKey × Row))
-        → spec.are_supported schema.now (in_table name.now (entries rows.now) ++ rest)
-        holders.old
-        ≡ (result && spec.are_supported schema.now rest holders.new) }
+/// Whether the table of this name is a root table, or each of its rows has another row among its holders.
+fn is_table_supported(schema: &Schema, name: &str, rows: &TableRows, strong: &Holders) -> bool
+    ensures { result
+        ≡ list_all (spec.is_root_or_held schema.now strong.now)
+        (in_table name.now (entries rows.now)) }
 {
     if is_root_table(schema, name) {
         return true;
     }
-    for (id, _) in rows.map() {
-        if !is_held(holders, name, *id.as_uuid()) {
-            return false;
-        }
+    match strong.of_table(name) {
+        Some(holders) => are_held(name, rows, holders),
+        None => rows.map().is_empty(),
     }
-    true
 }
 
-/// Whether each row is in a root table or has another row among its holders. Rows and holders are in the same order, so one
-/// pass over both is enough.
+/// Whether each row is in a root table or has another row among its holders.
 fn are_supported(schema: &Schema, rows: &Rows, strong: &Holders) -> bool
-    ensures { result ≡ spec.are_supported schema.now (entries rows.now) (entries strong.now) }
+    ensures { result
+        ≡ list_all (spec.is_root_or_held schema.now strong.now) (entries rows.now) }
 {
-    let mut holders = strong.map().iter();
     for (name, table) in rows.tables() {
-        if !is_table_supported(schema, name.as_str(), table, &mut holders) {
+        if !is_table_supported(schema, name.as_str(), table, strong) {
             return false;
         }
     }

@@ -8,19 +8,19 @@ use Rattle.ov_specs.specs.rows.Lines.{LineKey, line_cmp}
 use Rattle.ov_specs.specs.codes.ValueCode.{datum_code}
 use Rattle.ov_specs.specs.values.Uuid.{Uuid}
 use Rattle.ov_rows.specs.Named.{named}
-use Rattle.ov_rows.specs.Nested.{id_cmp, TableRows, all_rows}
+use Rattle.ov_rows.specs.Nested.{OfTable, TableRows, id_cmp, all_rows}
 
 -- the rows of an ascending list
 abbrev pub database_of : List (LineKey × Row) → Database
 database_of es = map.from_sorted {R = line_cmp} es
 
 -- the rows of a table, of an ascending list
-abbrev pub table_rows_of : List (Uuid × Row) → TableRows
+abbrev pub table_rows_of : {V : Type 0} → List (Uuid × V) → OfTable V
 table_rows_of es = map.from_sorted {R = id_cmp} es
 
 -- the rows of all tables, of an ascending list of them
-abbrev pub nested_of : List (String Global × TableRows) → Database
-nested_of ts = database_of (all_rows (named ts))
+abbrev pub nested_of : {V : Type 0} → List (String Global × OfTable V) → map.FinMap line_cmp V
+nested_of ts = map.from_sorted {R = line_cmp} (all_rows (named ts))
 
 -- ---- how a model stores them
 

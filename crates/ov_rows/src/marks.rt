@@ -46,8 +46,8 @@ pub(crate) fn own_among(
     Ok(own)
 }
 
-/// The value of the first column, or none: a copy of its default if it has a mark, or the last of the row's own values, which are here in reverse
-/// order.
+/// The value of the first column, or none: a copy of its default if it has a mark, or the last of the row's own values, which
+/// are here in reverse order.
 fn take_first(
     alloc: Global,
     marks: u64,

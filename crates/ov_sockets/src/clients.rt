@@ -1,9 +1,8 @@
 ghost use Rattle.std.specs.Prelude.{◌≡◌, IfSome};
 ghost use Rattle.ov_sockets.specs.Links.{IsNewClient};
 
-use ov_desk::Listen;
 use ov_ends::Watched;
-use ov_lanes::Link;
+use ov_lanes::{Link, Listen};
 use std::alloc::Global;
 use std::io::{BufWriter, ErrorKind};
 use std::net::{TcpListener, TcpStream};

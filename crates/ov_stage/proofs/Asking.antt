@@ -1,23 +1,23 @@
 -- What conditions ask for in the columns of an index, and the rows found there.
-use Rattle.std.proofs.Common.{◌≡◌, ℕ, ◌+◌, ◌<◌, List, [], ◌∷◌, ◌++◌, T, Some, None, is_some, length, get_or, take, map, refl, sym, ap, subst, ◌∙◌}
+use Rattle.std.proofs.Common.{◌≡◌, ℕ, ◌+◌, ◌<◌, List, [], ◌∷◌, ◌++◌, T, Option, Some, None, true, is_some, length, get_or, take, map, refl, sym, ap, subst, ◌∙◌}
 use Rattle.std.specs.Prelude.{slice_get, option_map, unwrap_or}
 use Rattle.std.proofs.lemmas.List.{nil_from_length, take_more}
 use Rattle.std.proofs.lemmas.List.Elements.{filter_map-append}
-use Rattle.std.proofs.lemmas.Option.{slice_get-get_or, slice_get-map}
+use Rattle.std.proofs.lemmas.Option.{same_Some, slice_get-get_or, slice_get-map}
 use Rattle.std.specs.Cmp.{eq_by_cmp_equiv}
 use Rattle.std.specs.FinMap.{get, contains_key, contains_key-keys, empty, entries, entries_sorted, get-empty, is_sorted, keys, len-empty, len-entries}
 use Rattle.std.specs.List.{cons_option}
-use Rattle.ov_index.specs.IndexKeys.{IndexKey, key_at, same_index_key, values_in}
+use Rattle.ov_index.specs.IndexKeys.{IndexKey, index_key, key_at, same_index_key, values_in}
 use Rattle.ov_index.specs.Indexing.{AreIndexesOf, IdSet, Indexes, ids_at, is_indexed, is_at, marked}
 use Rattle.ov_index.specs.KeyOrder.{index_total}
 use Rattle.ov_rows.specs.Nested.{id_cmp}
 use Rattle.ov_specs.specs.operations.Conditions.{Condition}
-use Rattle.ov_specs.specs.rows.Database.{Database}
+use Rattle.ov_specs.specs.rows.Database.{Columns, Database}
 use Rattle.ov_specs.specs.schema.Schema.{is_some_and}
 use Rattle.ov_specs.specs.schema.SchemaTypes.{Table, Schema}
 use Rattle.ov_specs.specs.values.Uuid.{Uuid}
 use Rattle.ov_specs.specs.values.Value.{Datum}
-use Rattle.ov_stage.specs.Asked.{Ascend, AreIdsOf, AreValuesOf, IsKeyOf, IsValueOf, has_id, is_at_key}
+use Rattle.ov_stage.specs.Asked.{Ascend, AreIdsOf, AreValuesAt, AreValuesOf, IsValueOf, has_id}
 
 -- ---- the values of an index
 
@@ -29,22 +29,15 @@ values-asked conditions index i column values more value copy within at pushed s
     ∙ filter_map-append (get row.1.columns) (take i index) (column ∷ [])
     ∙ (λ i. all row met i ++ cons_option (one row met i) []) ∙ ap (λ v. values ++ v ∷ []) (sym same) ∙ sym pushed
 
--- ---- the key
+-- ---- the index
 
--- the values are at the key of this index
-pub key-asked : {A : Type 0} (conditions : List Condition) (name : List ℕ) (table : Table) (seen : A → List (List ℕ)) (items : List A) (number : ℕ) (item : A) (values : List Datum) (key : IndexKey)
-    → map seen items ≡ table.indexes → number < length items → item ≡ get_or items number item → AreValuesOf conditions (seen item) values
-    → key ≡ record { table = name; number = number; values = values } → IsKeyOf conditions name table key
-key-asked conditions name table seen items number item values key are within at all is =
-    subst (IsKeyOf conditions name table) (sym is) (
-      refl,
-      λ row met.
-          ap (is_some_and (λ i. same_index_key (key_at name number i row.1.columns) made)) (ap (λ is. slice_get is number) (sym are) ∙ slice_get-map seen items number ∙ ap (option_map seen) (slice_get-get_or items number item within ∙ ap Some (sym at)))
-          ∙ ap (λ vs. same_index_key (record { table = name; number = number; values = vs }) made) (all row met) ∙ (eq_by_cmp_equiv index_total).refl made,
-    )
-  where
-    made : IndexKey
-    made = record { table = name; number = number; values = values }
+-- the values of an item are those at its number
+pub index-asked : {A : Type 0} (conditions : List Condition) (table : Table) (seen : A → List (List ℕ)) (items : List A) (number : ℕ) (item : A) (values : List Datum)
+    → map seen items ≡ table.indexes → number < length items → item ≡ get_or items number item → AreValuesOf conditions (seen item) values → AreValuesAt conditions table number values
+index-asked conditions table seen items number item values are within at all row met =
+    ap (option_map (λ index. values_in index row.1.columns))
+    (ap (λ is. slice_get is number) (sym are) ∙ slice_get-map seen items number ∙ ap (option_map seen) (slice_get-get_or items number item within ∙ ap Some (sym at)))
+    ∙ ap Some (all row met)
 
 -- ---- the rows at the key
 
@@ -68,12 +61,20 @@ kept indexes key id =
       | Some ids ↦ refl
     ])
 
--- every row that meets all conditions is kept at the key that they ask for
-pub ids-asked : (conditions : List Condition) (schema : Schema) (rows : Database) (indexes : Indexes) (name : List ℕ) (table : Table) (key : IndexKey) → AreIndexesOf schema rows indexes → Some table ≡ get schema.tables name
-    → IsKeyOf conditions name table key → AreIdsOf conditions rows name (keys (ids_at indexes key))
-ids-asked conditions schema rows indexes name table key are is of id row found met =
+-- a row with these values in the index is at their key
+at_values : (columns : Columns) (name : List ℕ) (number : ℕ) (values : List Datum) (o : Option (List (List ℕ))) → option_map (λ index. values_in index columns) o ≡ Some values
+    → is_some_and (λ index. same_index_key (key_at name number index columns) (index_key name number values)) o ≡ true
+at_values columns name number values None same = cc
+at_values columns name number values (Some index) same =
+    ap (λ vs. same_index_key (index_key name number vs) (index_key name number values)) (same_Some (values_in index columns) values same)
+    ∙ (eq_by_cmp_equiv index_total).refl (index_key name number values)
+
+-- every row that meets all conditions is kept at the values that they ask for
+pub ids-asked : (conditions : List Condition) (schema : Schema) (rows : Database) (indexes : Indexes) (name : List ℕ) (table : Table) (number : ℕ) (values : List Datum) → AreIndexesOf schema rows indexes → Some table ≡ get schema.tables name
+    → AreValuesAt conditions table number values → AreIdsOf conditions rows name (keys (ids_at indexes (index_key name number values)))
+ids-asked conditions schema rows indexes name table number values are is asked id row found met =
+    let key = index_key name number values in
     kept indexes key id ∙ are key id
-    ∙ ap (λ n. is_some_and (λ r. is_at schema ((n, id), r) key) (get rows (n, id))) of.0
     ∙ ap (is_some_and (λ r. is_at schema ((name, id), r) key)) found
-    ∙ ap (is_some_and (λ t. is_at_key name t row key)) (sym is)
-    ∙ of.1 ((name, id), row) met
+    ∙ ap (is_some_and (λ t. is_some_and (λ index. same_index_key (key_at name number index row.columns) key) (slice_get t.indexes number))) (sym is)
+    ∙ at_values row.columns name number values (slice_get table.indexes number) (asked ((name, id), row) met)

@@ -1,12 +1,12 @@
 -- What conditions ask for in the columns of an index, and the rows found there.
-use Rattle.std.specs.Prelude.{◌≡◌, true, false, Bool, ℕ, T, List, map, Option, Some, IfSome, option_to_list, slice_get}
+use Rattle.std.specs.Prelude.{◌≡◌, true, false, Bool, ℕ, T, List, map, Option, Some, IfSome, option_map, option_to_list, slice_get}
 use Rattle.std.specs.FinMap.{get, entries, is_sorted}
 use Rattle.std.specs.List.{filter, flat_map, list_any}
 use Rattle.std.specs.Ordering.{eq_by_cmp}
 use Rattle.std.specs.Str.{bytes_eq}
 use Rattle.ov_db.specs.Changing.{Delta, with_row_changes}
 use Rattle.ov_index.specs.Changing.{are_any_alike}
-use Rattle.ov_index.specs.IndexKeys.{IndexKey, key_at, same_index_key, values_in}
+use Rattle.ov_index.specs.IndexKeys.{values_in}
 use Rattle.ov_index.specs.Indexing.{AreIndexesOf, marked}
 use Rattle.ov_rows.specs.Nested.{id_cmp}
 use Rattle.ov_rows.specs.Resident.{database_of}
@@ -14,7 +14,6 @@ use Rattle.ov_specs.specs.operations.Conditions.{Condition}
 use Rattle.ov_specs.specs.operations.MatchingRows.{meets_all}
 use Rattle.ov_specs.specs.rows.Database.{Database, Row}
 use Rattle.ov_specs.specs.rows.Lines.{LineKey}
-use Rattle.ov_specs.specs.schema.Schema.{is_some_and}
 use Rattle.ov_specs.specs.schema.SchemaTypes.{Table}
 use Rattle.ov_specs.specs.values.Uuid.{Uuid}
 use Rattle.ov_specs.specs.values.Value.{Datum}
@@ -31,13 +30,10 @@ IsValueOf conditions column value = (row : LineKey × Row) → meets_all conditi
 abbrev pub AreValuesOf : List Condition → List (List ℕ) → List Datum → Type 0
 AreValuesOf conditions index values = (row : LineKey × Row) → meets_all conditions row ≡ true → values_in index row.1.columns ≡ values
 
--- the row of the table, which has this name, is at this key
-abbrev pub is_at_key : List ℕ → Table → Row → IndexKey → Bool
-is_at_key name table row key = is_some_and (λ index. same_index_key (key_at name key.number index row.columns) key) (slice_get table.indexes key.number)
-
--- the key is one of the table of this name, and every row that meets all conditions is at it
-abbrev pub IsKeyOf : List Condition → List ℕ → Table → IndexKey → Type 0
-IsKeyOf conditions name table key = (key.table ≡ name) × ((row : LineKey × Row) → meets_all conditions row ≡ true → is_at_key name table row.1 key ≡ true)
+-- the table has an index of this number, and it has these values in the columns of that index
+abbrev pub AreValuesAt : List Condition → Table → ℕ → List Datum → Type 0
+AreValuesAt conditions table number values =
+    (row : LineKey × Row) → meets_all conditions row ≡ true → option_map (λ index. values_in index row.1.columns) (slice_get table.indexes number) ≡ Some values
 
 -- ---- rows that include them
 

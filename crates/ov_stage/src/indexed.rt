@@ -1,13 +1,14 @@
 ghost use Rattle.std.specs.Prelude.{◌≡◌, IfOk, IfSome};
 ghost use Rattle.std.specs.FinMap.{keys};
+ghost use Rattle.ov_index.specs.IndexKeys.{index_key};
 ghost use Rattle.ov_index.specs.Indexing.{AreIndexesOf, ids_at};
 ghost use Rattle.ov_specs.specs.rows.Database as rows;
-ghost use Rattle.ov_stage.specs.Asked.{Ascend, AreIdsOf, AreValuesOf, IsKeyOf, IsValueOf};
+ghost use Rattle.ov_stage.specs.Asked.{Ascend, AreIdsOf, AreValuesAt, AreValuesOf, IsValueOf};
 
 use ov_atoms::Datum;
 use ov_base::Text;
 use ov_conds::Condition;
-use ov_index::{IndexKey, Indexes};
+use ov_index::Indexes;
 use ov_schema::{Schema, Table, is_own};
 use std::alloc::{AllocError, Global};
 use uuid::Uuid;
@@ -53,29 +54,28 @@ fn values_asked(
     Ok(Some(values))
 }
 
-/// The key in the first index of the table, which has this name, whose columns the conditions all ask for.
-fn key_asked(
+/// The number of the first index of the table whose columns the conditions all ask for, and the values that they ask for.
+fn index_asked(
     alloc: Global,
     conditions: &[Condition],
-    name: &str,
     table: &Table,
-) -> Result<Option<IndexKey>, AllocError>
+) -> Result<Option<(usize, Vec<Datum>)>, AllocError>
     ensures { IfOk result
-        (λ asked. IfSome asked (λ key. IsKeyOf conditions.now name.now table.now key)) }
+        (λ asked. IfSome asked (λ p. AreValuesAt conditions.now table.now p.0 p.1.items)) }
 {
     for (number, index) in table.indexes().iter().enumerate() {
         if let Some(values) = values_asked(alloc, conditions, index.as_slice())? {
-            return Ok(Some(IndexKey::new(alloc, name, number, values)?));
+            return Ok(Some((number, values)));
         }
     }
     Ok(None)
 }
 
-/// The identifiers of the rows at the key, ascending.
-fn ids_at<'a>(indexes: &'a Indexes, key: &IndexKey) -> &'a [Uuid]
-    ensures { result.now ≡ keys (ids_at indexes.now key.now) }
+/// The identifiers of the rows at these values in the index of this number of the table of this name, ascending.
+fn ids_at<'a>(indexes: &'a Indexes, table: &str, number: usize, values: &[Datum]) -> &'a [Uuid]
+    ensures { result.now ≡ keys (ids_at indexes.now (index_key table.now number values.now)) }
 {
-    match indexes.at(key) {
+    match indexes.at(table, number, values) {
         Some(ids) => ids.as_slice(),
         None => &[],
     }
@@ -99,8 +99,11 @@ impl<'a> Indexed<'a> {
         let Some(table) = self.schema.table(name) else {
             return Ok(None);
         };
-        match key_asked(alloc, conditions, name, table)? {
-            Some(key) => Ok(Some(ids_at(self.indexes, &key))),
+        match index_asked(alloc, conditions, table)? {
+            Some((number, values)) => {
+                let ids = ids_at(self.indexes, name, number, values.as_slice());
+                Ok(Some(ids))
+            }
             None => Ok(None),
         }
     }

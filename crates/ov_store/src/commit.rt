@@ -3,7 +3,8 @@ ghost use Rattle.sqlite.specs.State.{HasCleanDisk};
 ghost use Rattle.sqlite.specs.Held.{state};
 ghost use Rattle.ov_specs.specs.rows.Cells.{rewritten};
 ghost use Rattle.ov_keeper.specs.Views.{changes_view};
-ghost use Rattle.ov_keeper.specs.Keeping.{LeavesMade, LeavesRefused, IsCommitFault, changed};
+ghost use Rattle.ov_keeper.specs.Keeping.{HasFailed, LeavesMade, LeavesRefused, IsCommitFault};
+ghost use Rattle.ov_keeper.specs.Keeping.{changed};
 ghost use Rattle.ov_store.specs.StoreState.{MayFind, LeavesOthers, LeavesRest};
 
 use crate::store::Store;
@@ -27,7 +28,7 @@ impl<S: Alter> Store<S> {
         ensures same_format { self.new.format ≡ self.old.format }
         ensures kinds { IfErr result IsCommitFault }
         ensures cause { result ≡ Err KeepFault.Device
-            → (self.old.failures < self.new.failures) ⊎ (self.old.failures ≡ 2 ^ 64 - 1) }
+            → HasFailed self.old.failures self.new.failures }
         ensures counts { self.old.failures ≤ self.new.failures }
         ensures honest { HasCleanDisk (state S.Store self.new.connection)
             → HasCleanDisk (state S.Store self.old.connection) }
@@ -65,7 +66,7 @@ impl<S: Alter> Store<S> {
         ensures same_format { OnErr result (self.new.format ≡ self.old.format) }
         ensures kinds { IfErr result IsCommitFault }
         ensures cause { result ≡ Err KeepFault.Device
-            → (self.old.failures < self.new.failures) ⊎ (self.old.failures ≡ 2 ^ 64 - 1) }
+            → HasFailed self.old.failures self.new.failures }
         ensures counts { self.old.failures ≤ self.new.failures }
         ensures honest { HasCleanDisk (state S.Store self.new.connection)
             → HasCleanDisk (state S.Store self.old.connection) }

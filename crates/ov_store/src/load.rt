@@ -2,7 +2,7 @@ ghost use Rattle.std.specs.Prelude.{◌≡◌, ◌⊎◌, ◌<◌, ◌≤◌, �
 ghost use Rattle.sqlite.specs.State.{HasCleanDisk, Survives};
 ghost use Rattle.sqlite.specs.Held.{state};
 ghost use Rattle.ov_specs.specs.rows.Cells.{format_of};
-ghost use Rattle.ov_keeper.specs.Keeping.{LeavesNoMore, IsLoadFault, loaded_contents};
+ghost use Rattle.ov_keeper.specs.Keeping.{HasFailed, LeavesNoMore, IsLoadFault, loaded_contents};
 ghost use Rattle.ov_keeper.specs.Views.{lines_view};
 ghost use Rattle.ov_tables.specs.Tables.{HasOurTables};
 ghost use Rattle.ov_tables.specs.Format.{IsFormat, NamesOther};
@@ -71,7 +71,7 @@ impl<S: Alter> Store<S> {
             → HasCleanDisk (state S.Store self.old.connection) }
         // A failure of the device has a cause: the count rises, unless it is at its maximum.
         ensures cause { result ≡ Err KeepFault.Device
-            → (self.old.failures < self.new.failures) ⊎ (self.old.failures ≡ 2 ^ 64 - 1) }
+            → HasFailed self.old.failures self.new.failures }
         ensures counts { self.old.failures ≤ self.new.failures }
         ensures kinds { IfErr result IsLoadFault }
     {

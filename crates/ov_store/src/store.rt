@@ -2,7 +2,7 @@ ghost use Rattle.std.specs.Prelude.{◌≡◌, ◌⊎◌, ◌<◌, ◌≤◌, �
 ghost use Rattle.sqlite.specs.State.{HasCleanDisk};
 ghost use Rattle.sqlite.specs.Held.{state};
 ghost use Rattle.ov_specs.specs.rows.Cells.{format_of};
-ghost use Rattle.ov_keeper.specs.Keeping.{IsCommitFault};
+ghost use Rattle.ov_keeper.specs.Keeping.{HasFailed, IsCommitFault};
 ghost use Rattle.ov_store.specs.StoreState.{StoreState, store_code, IsAtRest, MayFind};
 
 use ov_keeper::{KeepFault, Loaded};
@@ -25,7 +25,11 @@ impl<S: Alter> Model for Store<S> {
 
     ghost coded = { store_code S.code };
 
-    ghost view = { λ s. record { connection = s.connection; format = s.format; failures = s.failures } };
+    ghost view = { λ s. record {
+      connection = s.connection;
+      format = s.format;
+      failures = s.failures;
+    } };
 
     ghost invariant = { λ s. IsAtRest S.Store s.connection s.format s.read };
 }
@@ -68,7 +72,7 @@ impl<S: Alter> Store<S> {
         ensures kind { IsCommitFault result }
         ensures same { self.new.connection ≡ self.old.connection }
         ensures same_format { self.new.format ≡ self.old.format }
-        ensures count { (self.old.failures < self.new.failures) ⊎ (self.old.failures ≡ 2 ^ 64 - 1) }
+        ensures count { HasFailed self.old.failures self.new.failures }
         ensures rises { self.old.failures ≤ self.new.failures }
     {
         self.failures = self.failures.saturating_add(1);

@@ -41,7 +41,15 @@ impl<K: Keeper, D> Model for Streams<K, D> {
 
     ghost Value = { StreamsState K D };
 
-    ghost coded = { Prim.hlevel (codes, schema_code, database_code, tree_code, items_code, K.code, D.code) };
+    ghost coded = { Prim.hlevel (
+      codes,
+      schema_code,
+      database_code,
+      tree_code,
+      items_code,
+      K.code,
+      D.code,
+    ) };
 
     ghost view = { λ s. record { core = s.core; cutters = s.cutters.entries } };
 }

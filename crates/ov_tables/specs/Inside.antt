@@ -17,13 +17,6 @@ DoesInside Did old new result =
     HasCleanDisk new → IsTrue old.in_transaction → (text : List ℕ) → MayHoldCells text old
     → OnOk result (Did text old new)
 
--- the same, if the rows are so too
-abbrev pub DoesInsideIf : {T : Type 0} → (State → Type 0) → (List ℕ → State → State → Type 0)
-    → State → State → Result T Error → Type 0
-DoesInsideIf May Did old new result =
-    HasCleanDisk new → IsTrue old.in_transaction → (text : List ℕ) → MayHoldCells text old
-    → May old → OnOk result (Did text old new)
-
 -- where it succeeds, the connection was open
 abbrev pub WasOpenInside : {T : Type 0} → State → State → Result T Error → Type 0
 WasOpenInside old new result =

@@ -259,7 +259,8 @@ fn is_alone(schema: &Schema, table: &Table, key: &[u8]) -> bool
 
 /// Whether the table `meta` is there as this program makes it, and everything else leaves it alone.
 fn has_meta(schema: &Schema) -> bool
-    ensures { IsTrue result ↔ HasTable schema.now (meta_table (tree_number schema.now (codes "meta"))) }
+    ensures { IsTrue result
+        ↔ HasTable schema.now (meta_table (tree_number schema.now (codes "meta"))) }
 {
     match table_of(schema, b"meta") {
         Some(table) => is_meta(table) && is_alone(schema, table, b"sqlite_autoindex_meta_1"),
@@ -269,7 +270,8 @@ fn has_meta(schema: &Schema) -> bool
 
 /// Whether the table `line` is there as this program makes it, and everything else leaves it alone.
 fn has_line(schema: &Schema) -> bool
-    ensures { IsTrue result ↔ HasTable schema.now (line_table (tree_number schema.now (codes "line"))) }
+    ensures { IsTrue result
+        ↔ HasTable schema.now (line_table (tree_number schema.now (codes "line"))) }
 {
     match table_of(schema, b"line") {
         Some(table) => is_line(table) && is_alone(schema, table, b"sqlite_autoindex_line_1"),
@@ -279,7 +281,8 @@ fn has_line(schema: &Schema) -> bool
 
 /// Whether the table `head` is there as this program makes it, and everything else leaves it alone.
 fn has_head(schema: &Schema) -> bool
-    ensures { IsTrue result ↔ HasTable schema.now (head_table (tree_number schema.now (codes "head"))) }
+    ensures { IsTrue result
+        ↔ HasTable schema.now (head_table (tree_number schema.now (codes "head"))) }
 {
     match table_of(schema, b"head") {
         Some(table) => is_head(table) && is_alone(schema, table, b"sqlite_autoindex_head_1"),
@@ -289,7 +292,8 @@ fn has_head(schema: &Schema) -> bool
 
 /// Whether the table `cell` is there as this program makes it, and everything else leaves it alone.
 fn has_cell(schema: &Schema) -> bool
-    ensures { IsTrue result ↔ HasTable schema.now (cell_table (tree_number schema.now (codes "cell"))) }
+    ensures { IsTrue result
+        ↔ HasTable schema.now (cell_table (tree_number schema.now (codes "cell"))) }
 {
     match table_of(schema, b"cell") {
         Some(table) => is_cell(table) && is_alone(schema, table, b"sqlite_autoindex_cell_1"),

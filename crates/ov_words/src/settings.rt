@@ -69,7 +69,8 @@ fn name_of(alloc: Global, matches: &ArgMatches<'_>, name: &str) -> Result<Option
 fn number_of(matches: &ArgMatches<'_>, name: &str) -> Result<Option<u64>, WordFault>
     ensures value { IfOk result (λ count. count
         ≡ option_and_then sessions_in (first_value (found_of matches.now) name.now)) }
-    ensures number { IfOk result (λ count. is_session_count (first_value (found_of matches.now) name.now)
+    ensures number { IfOk result (λ count. is_session_count
+        (first_value (found_of matches.now) name.now)
         ≡ true) }
     ensures other { result ≡ Err WordFault.Refused
         → is_session_count (first_value (found_of matches.now) name.now) ≡ false }

@@ -1,10 +1,10 @@
 //! A lobby and its clients, which come when their listener gives them, with what each of them was written.
 
 use crate::desks::RisingClock;
-use ov_desk::{Listen, serve_lobby};
+use ov_desk::serve_lobby;
 use ov_ends::Watched;
 use ov_keeper::Keeper;
-use ov_lanes::{Desk, Link};
+use ov_lanes::{Desk, Link, Listen};
 use ov_requests::Draws;
 use ov_workers::FreeGate;
 use std::alloc::{AllocError, Global};

@@ -19,7 +19,7 @@ fn commit_to(alloc: Global, load: u64) -> Result<String, AllocError> {
     )
 }
 
-/// The update that tells of it.
+/// The update that it sends.
 fn update_to(alloc: Global, load: u64) -> Result<String, AllocError> {
     let before = load.saturating_sub(1);
     format!(in alloc;

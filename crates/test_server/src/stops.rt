@@ -36,7 +36,7 @@ pub(crate) struct Case<'a> {
     pub look: &'a str,
     /// Its answers: before the messages, and after each of them.
     pub answers: &'a str,
-    /// Whether outcomes are told by the replies and the answer in full.
+    /// Whether replies and answer give outcomes in full.
     pub is_in_full: bool,
     /// Whether no call of the opening fails.
     pub is_opened: bool,

@@ -27,6 +27,13 @@ const CHOSEN: &str =
 >{"id":7,"method":"transact","params":["Net",{"op":"insert","table":"Switch","row":{"name":"s2"}}]}
 <{"error":null,"id":7,"result":[{"uuid":["uuid","00000000-0000-4000-8000-00000000000c"]}]}"#;
 
+/// A relation on a column of at most one integer holds for the port with a lesser tag, and not for the one without a tag.
+const RELATED: &str =
+    r#">{"id":1,"method":"transact","params":["Net",{"op":"insert","table":"Port","uuid-name":"a","row":{"name":"a","tag":5}},{"op":"insert","table":"Port","uuid-name":"b","row":{"name":"b"}},{"op":"insert","table":"Switch","row":{"name":"s1","ports":["set",[["named-uuid","a"],["named-uuid","b"]]]}}]}
+<{"error":null,"id":1,"result":[{"uuid":["uuid","00000000-0000-4000-8000-000000000002"]},{"uuid":["uuid","00000000-0000-4000-8000-000000000003"]},{"uuid":["uuid","00000000-0000-4000-8000-000000000004"]}]}
+>{"id":2,"method":"transact","params":["Net",{"op":"select","table":"Port","where":[["tag","<",10]],"columns":["name"]}]}
+<{"error":null,"id":2,"result":[{"rows":[{"name":"a"}]}]}"#;
+
 /// After the operation that fails the results are null, and the table is as before. All that the transaction wanted was
 /// drawn.
 const UNDONE: &str =
@@ -181,6 +188,11 @@ fn inserted_rows_are_selected(rt: HostRuntime) -> Result<(), Fail> {
 #[test]
 fn chosen_identifiers_are_used(rt: HostRuntime) -> Result<(), Fail> {
     converses(rt.alloc(), CHOSEN)
+}
+
+#[test]
+fn relations_hold_where_there_is_an_integer(rt: HostRuntime) -> Result<(), Fail> {
+    converses(rt.alloc(), RELATED)
 }
 
 #[test]

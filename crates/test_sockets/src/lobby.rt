@@ -1,10 +1,10 @@
 //! A lobby over the loopback interface: for two clients at a time, and for many that come one after another.
 
 use crate::sessions::{client_of, meets_end, talk};
-use ov_desk::{Listen, serve_lobby};
+use ov_desk::serve_lobby;
 use ov_ends::{Clock, Watched};
 use ov_keeper::Keeper;
-use ov_lanes::{Desk, Link};
+use ov_lanes::{Desk, Link, Listen};
 use ov_requests::Draws;
 use ov_sockets::listen;
 use ov_workers::FreeGate;

@@ -95,10 +95,10 @@ fn push_row<K: Keeper + Drop>(
     db: &Db<K>,
     key: &RowKey,
 ) -> Result<(), Fail> {
-    let count = db.strong_count(key);
+    let count = db.strong_count(key.table(), key.id());
     text.push_str(text_of_key(alloc, key)?.as_str())?;
     text.push_str(format!(in alloc; " {count}")?.as_str())?;
-    if let Some(holders) = db.weak_holders(key) {
+    if let Some(holders) = db.weak_holders(key.table(), key.id()) {
         push_keys(alloc, text, holders)?;
     }
     text.push_str("\n")?;
@@ -129,7 +129,7 @@ fn text_of_place<K: Keeper + Drop>(
 ) -> Result<String, Fail> {
     let table = key.table();
     let number = key.number();
-    match db.indexed(key) {
+    match db.indexed(table, number, key.values()) {
         Some(id) => Ok(format!(in alloc; "{table} index {number} {id}\n")?),
         None => Ok(format!(in alloc; "{table} index {number}\n")?),
     }

@@ -411,8 +411,8 @@ fn holders_and_the_row_of_an_index_are_told(rt: HostRuntime) -> Result<(), Fail>
     tells_after_both(rt.alloc(), &mut looked)
 }
 
-/// A root that names one node in the keys of a map, twice in the values of another, and in a column of its own; then a second root
-/// that names it too; then the first one alone, which names it once.
+/// A root that names one node in the keys of a map, twice in the values of another, and in a column of its own; then a second
+/// root that names it too; then the first one alone, which names it once.
 const REFERRING: [&str; 3] = [
     r#"0 [{"op":"insert","table":"Root","row":{"first":["named-uuid","a"],"by_key":["map",[[["named-uuid","a"],5]]],"by_value":["map",[[6,["named-uuid","a"]],[7,["named-uuid","a"]]]]}},{"op":"insert","table":"Node","uuid-name":"a","row":{"name":"a"}}]"#,
     r#"0 [{"op":"insert","table":"Root","row":{"first":["uuid","00000000-0000-4000-8000-000000000003"]}}]"#,

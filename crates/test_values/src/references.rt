@@ -131,7 +131,7 @@ fn keys_text(alloc: Global, keys: &KeySet) -> Result<String, Fail> {
 
 /// The rows that refer to the row of a key.
 fn holders_of(alloc: Global, holders: &Holders, key: &RowKey) -> Result<String, Fail> {
-    match holders.of(key) {
+    match holders.of(key.table(), key.id()) {
         Some(keys) => keys_text(alloc, keys),
         None => Ok(String::new(alloc)),
     }
@@ -271,12 +271,12 @@ fn keys_of(alloc: Global, text: &str) -> Result<(RowKey, RowKey), Fail> {
 
 impl Holding {
     fn is_empty(&self, alloc: Global) -> Result<String, Fail> {
-        Ok(format!(in alloc; "{}", self.holders.map().is_empty())?)
+        Ok(format!(in alloc; "{}", self.holders.tables().is_empty())?)
     }
 
     fn add(&mut self, alloc: Global, text: &str) -> Result<String, Fail> {
         let (to, from) = keys_of(alloc, text)?;
-        self.holders.add(alloc, to, from)?;
+        self.holders.add(alloc, &to, from)?;
         Ok(String::new(alloc))
     }
 

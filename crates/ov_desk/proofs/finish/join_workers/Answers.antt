@@ -27,10 +27,10 @@ returns-clause-ends g c k link course f =
     (subst (λ (b : Bool). FitsCourse course lane.cause (received lane.inbound) (sent lane.outbound) lane.marked b) c.requires.over.0 f) in
     let rest = known_items c.slots_beside.new.self in let coming = known_items c.slots_beside-2.new.self in
     ends_for course lane.cause (received lane.inbound) rest (sent left.inlet.ring) (sent lane.outbound) (received wrote.ring) coming over
-    (source k.reader) (source left.last.value) (sink k.writer) (sink wrote.last.value) left.cause wrote.failed c.told.result
+    (source k.reader) (source left.last.value) (sink k.writer) (sink wrote.last.value) left.cause wrote.failed c.reported_cause.result
     (ap (λ x. x ++ rest) (sym c.slots_beside.ensures.looked.1) ∙ (c.slots_beside.ensures.fifo ∙ c.slots_beside.ensures.producer.1))
     (ap (λ x. x ++ coming) (sym c.slots_beside-2.ensures.looked.1) ∙ (c.slots_beside-2.ensures.fifo ∙ c.slots_beside-2.ensures.producer.1))
-    r.1 v.1 c.told.ensures
+    r.1 v.1 c.reported_cause.ensures
 
 pub returns-clause-keep : goal.returns-clause-keep
 returns-clause-keep g c keeps works =

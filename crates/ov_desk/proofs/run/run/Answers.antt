@@ -1,7 +1,8 @@
-use Rattle.std.proofs.Common.{◌++◌, [], sym, ap, ◌∙◌, append-nil}
+use Rattle.std.proofs.Common.{◌≡◌, ◌++◌, ◌∷◌, [], refl, sym, ap, ◌∙◌, append-nil}
 use Rattle.std.specs.Prelude.{option_to_list}
 use Rattle.ov_desk.specs.LinkStates.{ends_of}
 use Rattle.ov_desk.proofs.Guests.{hosts_first, hosts_more}
+use Rattle.ov_desk.proofs.Noting.{each_more, taken_more}
 use Rattle.ov_desk.proofs.Running.{hall_along, hall_same, noted_more, briefly}
 use Rattle.ov_desk.proofs.run.run.Goals.{in-None-due, in-Some-due}
 use Rattle.ov_desk.proofs.run.run.Goals as goal
@@ -9,6 +10,7 @@ use Rattle.ov_desk.proofs.run.run.Goals as goal
 pub loop-init : goal.loop-init
 loop-init g c = record {
   hosts = hosts_first (ends_of g.S.Source g.W.Sink) g.C.Clock.tells c.args.hall.now.desk c.args.clock.now;
+  noted = ([], sym (append-nil c.args.taken.now.serials), refl);
   kept = ([], sym (append-nil c.args.taken.now.serials), hall_same c.args.hall.now);
   honest = λ honest. honest;
   seats = c.requires.seats;
@@ -18,20 +20,21 @@ pub loop-preserved : goal.loop-preserved
 loop-preserved g c =
     let was = c.loop.invariant in let note = option_to_list c.match-due.note in
     let a = c.args.hall.now in let b = c.loop.hall in let h = c.serve_note.new.hall in
+    let first = c.args.taken.now.serials in let before = c.loop.taken.serials in let after = c.match-due.taken.serials in
+    let told : after ≡ before ++ note = elim c.match-due.branch [
+      | in-None-due w ↦ ap (λ t. t.serials) w.taken-is ∙ (w.wait_next.ensures ∙ ap (λ o. before ++ option_to_list o) (sym w.note-is))
+      | in-Some-due w ↦
+          ap (λ t. t.serials) w.taken-is
+          ∙ (briefly before w.wait_briefly-note.new.taken.serials w.wait_briefly-note.result w.wait_briefly-note.ensures ∙ ap (λ o. before ++ option_to_list o) (sym w.note-is))
+    ] in
     record {
       hosts = hosts_more (ends_of g.S.Source g.W.Sink) g.C.Clock.tells a.desk b.desk h.desk c.args.clock.now c.loop.clock c.now.new.self c.now.result was.hosts c.now.ensures c.serve_note.ensures.hosts;
-      kept = (
-        was.kept.0 ++ note,
-        elim c.match-due.branch [
-          | in-None-due w ↦
-              ap (λ t. t.serials) w.taken-is
-              ∙ noted_more c.args.taken.now.serials c.loop.taken.serials w.wait_next.new.taken.serials was.kept.0 c.match-due.note was.kept.1 (w.wait_next.ensures ∙ ap (λ o. c.loop.taken.serials ++ option_to_list o) (sym w.note-is))
-          | in-Some-due w ↦
-              ap (λ t. t.serials) w.taken-is
-              ∙ noted_more c.args.taken.now.serials c.loop.taken.serials w.wait_briefly-note.new.taken.serials was.kept.0 c.match-due.note was.kept.1 (briefly c.loop.taken.serials w.wait_briefly-note.new.taken.serials w.wait_briefly-note.result w.wait_briefly-note.ensures ∙ ap (λ o. c.loop.taken.serials ++ option_to_list o) (sym w.note-is))
-        ],
-        hall_along was.kept.0 note a b h was.kept.2 c.serve_note.ensures.kept,
+      noted = (
+        was.noted.0 ++ c.match-due.note ∷ [],
+        taken_more first before after was.noted.0 c.match-due.note was.noted.1 told,
+        each_more (ends_of g.S.Source g.W.Sink) was.noted.0 c.match-due.note a b h was.noted.2 c.serve_note.ensures.noted,
       );
+      kept = (was.kept.0 ++ note, noted_more first before after was.kept.0 c.match-due.note was.kept.1 told, hall_along was.kept.0 note a b h was.kept.2 c.serve_note.ensures.kept);
       honest = λ honest. was.honest (c.serve_note.ensures.honest honest);
       seats = c.serve_note.ensures.seats;
     }

@@ -4,10 +4,11 @@ use Rattle.ov_core.specs.Following.{CoreState}
 use Rattle.ov_lanes.proofs.Courses.{passes}
 use Rattle.ov_lanes.proofs.PlaceLaws.{goes_passed}
 use Rattle.ov_lanes.proofs.Steady.{passes_next}
-use Rattle.ov_desk.specs.Guests.{HostsOn}
+use Rattle.ov_desk.specs.Guests.{HostsOn, TakesNotes, session_notes}
 use Rattle.ov_desk.specs.LinkStates.{ends_of}
 use Rattle.ov_desk.specs.Serving.{KeepsHall}
 use Rattle.ov_desk.proofs.Guests.{leaves_none, session_tended, session_puts, hosts_steady, hosts_none, hosts_along}
+use Rattle.ov_desk.proofs.Noting.{notes_none, notes_left, notes_puts, notes_then, noted_of}
 use Rattle.ov_desk.proofs.Running.{hall_along, hall_same, hall_puts, hall_tended}
 use Rattle.ov_desk.proofs.run.serve_note.Goals.{in-Some, in-None, then-not-is_flushed, else-not-is_flushed}
 use Rattle.ov_desk.proofs.run.serve_note.Goals as goal
@@ -18,7 +19,7 @@ returns-clause-hosts g c =
     let o = c.args.hall.now.desk in let ls = o.lanes.items in let core = c.pass_where_due.new.self in let p = record o { core = core } in
     let a = c.match-note.hall.desk in let b = c.if-not-is_flushed.hall.desk in let d = c.tend.new.self.desk in
     let passed : HostsOn ends m o p = hosts_steady ends m o p
-    (goes_passed m ls (λ start since. passes m since draws core c.pass_where_due.result c.pass_where_due.ensures.passes c.pass_where_due.ensures.refused))
+    (goes_passed m ls (λ start since. passes m since draws core c.pass_where_due.result c.pass_where_due.ensures.passes c.pass_where_due.ensures.due c.pass_where_due.ensures.refused))
     (session_tended ends ls ls (leaves_none ends ls)) (passes_next o.core core draws m c.pass_where_due.result c.pass_where_due.ensures.passes c.pass_where_due.ensures.refused) in
     let taken : HostsOn ends m p a = elim c.match-note.branch [
       | in-Some w ↦ subst (λ h. HostsOn ends m p h.desk) (sym w.hall-is) w.take_noted-is_flushed.ensures.hosts
@@ -33,6 +34,26 @@ returns-clause-hosts g c =
     let t = c.tend.ensures.tends in
     let tended = hosts_steady ends m b d (t.goes m) (session_tended ends b.lanes.items d.lanes.items t.leaves) (ap (λ (k : CoreState _ _). k.state.next) t.core) in
     hosts_along ends m o p d passed (hosts_along ends m p a d taken (hosts_along ends m a b d flushed tended))
+
+pub returns-clause-noted : goal.returns-clause-noted
+returns-clause-noted g c apart =
+    let ends = ends_of g.S.Source g.W.Sink in let o = c.args.hall.now in let notes = session_notes o c.args.note in
+    let ls = o.desk.lanes.items in let ms = c.match-note.hall.desk.lanes.items in let ns = c.if-not-is_flushed.hall.desk.lanes.items in
+    let taken : TakesNotes ends notes ls ms = elim c.match-note.branch [
+      | in-Some w ↦
+          let t = w.take_noted-is_flushed in let ks = t.new.hall.desk.lanes.items in
+          subst (λ h. TakesNotes ends notes ls h.desk.lanes.items) (sym w.hall-is)
+          (subst (λ n. TakesNotes ends (session_notes o n) ls ks) (sym w.in-Some.is) (noted_of ends o w.in-Some.note t.result ks t.ensures.noted apart))
+      | in-None w ↦
+          subst (λ h. TakesNotes ends notes ls h.desk.lanes.items) (sym w.hall-is)
+          (subst (λ n. TakesNotes ends (session_notes o n) ls ls) (sym w.in-None.is) (notes_none ends ls))
+    ] in
+    let flushed : TakesNotes ends [] ms ns = elim c.if-not-is_flushed.branch [
+      | then-not-is_flushed w ↦ subst (λ h. TakesNotes ends [] ms h.desk.lanes.items) (sym w.hall-is) (notes_puts ends ms w.flush.new.self.lanes.items w.flush.ensures.flushes.rings)
+      | else-not-is_flushed w ↦ subst (λ h. TakesNotes ends [] ms h.desk.lanes.items) (sym w.hall-is) (notes_none ends ms)
+    ] in
+    let ks = c.tend.new.self.desk.lanes.items in
+    notes_then ends notes ls ns ks (notes_then ends notes ls ms ns taken flushed) (notes_left ends ns ks c.tend.ensures.tends.leaves)
 
 pub returns-clause-kept : goal.returns-clause-kept
 returns-clause-kept g c =

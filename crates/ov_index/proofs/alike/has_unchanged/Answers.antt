@@ -9,4 +9,4 @@ use Rattle.ov_index.proofs.alike.has_unchanged.Goals as goal
 pub returns-in-None : goal.returns-in-None
 returns-in-None c =
     let changes = c.args.changes.now.entries in
-    ap (list_any (λ id. not (contains_key (from_sorted {R = line_cmp} changes) (c.args.key.now.table, id)))) (sym no_keys ∙ ap (λ o. keys (unwrap_or o empty)) c.in-None.ensures)
+    ap (list_any (λ id. not (contains_key (from_sorted {R = line_cmp} changes) (c.args.table.now, id)))) (sym no_keys ∙ ap (λ o. keys (unwrap_or o empty)) c.in-None.ensures)

@@ -1,8 +1,10 @@
 use Rattle.std.proofs.Common.{◌≡◌}
+use Rattle.std.specs.FinMap.{entries}
+use Rattle.std.specs.List.{list_all}
 use Rattle.ov_rows.specs.Named.{named}
-use Rattle.ov_rows.specs.Nested.{all_rows}
-use Rattle.ov_refs.specs.Whole.{are_supported}
+use Rattle.ov_refs.specs.Whole.{is_root_or_held}
+use Rattle.ov_refs.proofs.ByTables.{are_all_in}
 use Rattle.ov_refs.proofs.whole.are_supported.Given as goal
 
 abbrev pub invariant-loop-name : goal.invariant-loop-name
-invariant-loop-name l = are_supported l.schema (all_rows (named l.name-iterator)) l.holders ≡ are_supported l.schema (all_rows (named l.initial.name-iterator)) l.initial.holders
+invariant-loop-name l = list_all (are_all_in (is_root_or_held l.schema l.strong)) (named l.name-iterator) ≡ list_all (is_root_or_held l.schema l.strong) (entries l.rows)

@@ -8,7 +8,7 @@ use Rattle.ov_sqlite.specs.Changing.{MakesRows, Becomes}
 use Rattle.ov_sqlite.specs.Writing.{WritesTables}
 use Rattle.ov_sqlite.proofs.write.apply_all.Given as goal
 
--- so many changes were made
+-- this many changes were made
 abbrev pub invariant-loop-change : goal.invariant-loop-change
 invariant-loop-change g l =
     let old = state g.S.Store l.fn.tx.conn.now in

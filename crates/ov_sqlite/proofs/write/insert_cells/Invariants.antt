@@ -4,7 +4,7 @@ use Rattle.ov_sqlite.specs.Changing.{MayHave, MakesRows, AreCellsAdded}
 use Rattle.ov_sqlite.specs.Writing.{WritesTables, MayHoldWith}
 use Rattle.ov_sqlite.proofs.write.insert_cells.Given as goal
 
--- so many cells were added
+-- this many cells were added
 abbrev pub invariant-loop-done : goal.invariant-loop-done
 invariant-loop-done g l = record {
   within : l.done ≤ length l.fn.line.cells.items;

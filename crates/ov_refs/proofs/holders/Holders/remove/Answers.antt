@@ -1,26 +1,41 @@
-use Rattle.std.proofs.Common.{◌≡◌, rules, sym, ap, ◌∙◌}
-use Rattle.std.specs.FinMap.{remove}
-use Rattle.ov_specs.specs.rows.Lines.{line_cmp}
-use Rattle.ov_specs.proofs.laws.LineKeys.{key_exact, key_total}
-use Rattle.ov_rows.proofs.Maps.{ascends, from_sorted-remove}
-use Rattle.ov_refs.specs.Holding.{Holders, holders_of, without_holder}
-use Rattle.ov_refs.proofs.HolderMaps.{without-last, without-others}
+use Rattle.std.proofs.Common.{T, rules, ap, sym, subst, ◌∙◌}
+use Rattle.std.specs.FinMap.{is_sorted}
+use Rattle.std.proofs.lemmas.Map.Text.{btree_map_updates_text}
+use Rattle.ov_specs.specs.schema.SchemaTypes.{name_cmp}
+use Rattle.ov_rows.specs.Named.{named}
+use Rattle.ov_rows.specs.Resident.{nested_of}
+use Rattle.ov_rows.proofs.Names.{names-ascend}
+use Rattle.ov_rows.proofs.Nested.{table_at}
+use Rattle.ov_refs.specs.Holding.{without_holder}
+use Rattle.ov_refs.specs.declared.holders.Holders.TheInside.{Inside}
+use Rattle.ov_refs.proofs.HolderMaps.{nested-fewer, nested-none}
+use Rattle.ov_refs.proofs.holders.Holders.remove.Goals.{in-Some, in_default}
 use Rattle.ov_refs.proofs.holders.Holders.remove.Goals as goal
 
 pub invariant_of-self : goal.invariant_of-self
-invariant_of-self c = ascends line_cmp c.remove.new.self.entries c.remove.ensures.ordered
+invariant_of-self c =
+    elim c.match-get_mut.branch [
+      | in-Some w ↦ subst (λ (s : Inside). T (is_sorted name_cmp (named s.tables.entries))) (sym w.self-inside-is) (names-ascend _ (c.get_mut.follows.holds w.remove.new.self).4)
+      | in_default w ↦
+          subst (λ (s : Inside). T (is_sorted name_cmp (named s.tables.entries))) (sym (w.self-inside-is ∙ ap (λ m. record { tables = m }) c.get_mut.follows.holds-at-none)) c.self.invariant
+    ]
 
-pub returns-then-take_from : goal.returns-then-take_from
-returns-then-take_from c =
-    let to = c.args.to.now in
-    let from = c.args.from.now in
-    let es = c.self.inside.of.entries in
-    let es' = c.remove.new.self.entries in
-    let out : holders_of es' ≡ without_holder to from c.args.self.now =
-    from_sorted-remove line_cmp key_total key_exact es es' to c.self.invariant (ascends line_cmp es' c.remove.ensures.ordered) c.remove.ensures.updates.0
-    ∙ ap (λ (holders : Holders). remove holders to) (c.self.view_is ∙ c.take_from.ensures.fewer) ∙ without-last to from c.args.self.now (sym c.take_from.ensures.none ∙ c.if-take_from.true) in
-    search rules
-
-pub returns-else-take_from : goal.returns-else-take_from
-returns-else-take_from c =
-    c.take_from.ensures.fewer ∙ without-others c.args.to.now c.args.from.now c.args.self.now (sym c.take_from.ensures.none ∙ c.if-take_from.false)
+pub returns : goal.returns
+returns c =
+    elim c.match-get_mut.branch [
+      | in-Some w ↦
+          let tables = c.self.inside.tables in
+          let name = c.table.result.now in
+          let new = w.remove.new.self in
+          let wrote = c.get_mut.follows.holds new in
+          ap (λ (s : Inside). nested_of s.tables.entries) w.self-inside-is
+          ∙ nested-fewer tables.entries name w.id.result c.args.from.now c.self.invariant (c.get_mut.follows.lender new).entries (names-ascend _ wrote.4) new (btree_map_updates_text name tables (c.get_mut.follows.lender new) _ (wrote.3 (search rules)))
+          w.in-Some.holders.now w.in-Some.ensures.value w.remove.ensures
+          ∙ (λ i. without_holder (c.table.ensures i, w.id.ensures i) c.args.from.now (c.self.view_is i))
+      | in_default w ↦
+          let tables = c.self.inside.tables in
+          let key = c.args.to.now in
+          ap (λ (s : Inside). nested_of s.tables.entries) (w.self-inside-is ∙ ap (λ m. record { tables = m }) c.get_mut.follows.holds-at-none)
+          ∙ nested-none tables.entries key.0 key.1 c.args.from.now c.self.invariant (w.in_default.ensures.value ∙ ap (λ n. table_at n tables.entries) c.table.ensures)
+          ∙ ap (without_holder key c.args.from.now) c.self.view_is
+    ]

@@ -1,6 +1,5 @@
 use Rattle.std.proofs.Common.{◌≡◌, ◌∷◌, [], ◌++◌, sym, ap, ◌∙◌}
 use Rattle.ov_specs.specs.integrity.References.{Target, RowReference}
-use Rattle.ov_refs.specs.Linking.{with_target}
 use Rattle.ov_refs.proofs.Placing.{placed-back, placed-adds, known-adds}
 use Rattle.ov_refs.proofs.links.Links.place_target.Goals as goal
 
@@ -16,10 +15,8 @@ returns-clause-back c =
     let listed : c.push_reserved.new.self.items ≡ c.args.added.now.items ++ one ∷ [] =
     c.push_reserved.ensures.items ∙ (λ i. c.reserve.ensures.items i ++ (c.in_ok-reference.ensures ∙ ap (λ (t : Target). record { from = by; to = t }) c.in_ok-copied.ensures) i ∷ []) in
     placed-back by target links (sym c.has.ensures ∙ c.if-has.false) c.args.added.now.items c.push_reserved.new.self.items c.add_target.new.self listed
-    (c.in_ok-add_target.ensures.ok ∙ ap (λ t. with_target by t links) c.in_ok-copied-2.ensures)
+    c.in_ok-add_target.ensures.ok
 
 pub returns-clause-adds : goal.returns-clause-adds
 returns-clause-adds c =
-    let by = c.args.from.now in
-    let links = c.args.self.now in
-    placed-adds by c.args.to.now links c.add_target.new.self (c.in_ok-add_target.ensures.ok ∙ ap (λ t. with_target by t links) c.in_ok-copied-2.ensures)
+    placed-adds c.args.from.now c.args.to.now c.args.self.now c.add_target.new.self c.in_ok-add_target.ensures.ok

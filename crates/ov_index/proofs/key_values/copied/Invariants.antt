@@ -1,5 +1,0 @@
-use Rattle.std.proofs.Common.{◌≡◌, take}
-use Rattle.ov_index.proofs.key_values.copied.Given as goal
-
-abbrev pub invariant-loop-datum : goal.invariant-loop-datum
-invariant-loop-datum l = l.copies.items ≡ take l.datum-index l.values
