@@ -4,12 +4,15 @@ use Rattle.std.proofs.Common.{◌≡◌, ℕ, pos, List, [], ◌∷◌, Bool, tr
 use Rattle.std.specs.FinMap.{FinMap, entries, is_sorted, find, get, same_map, from_entries, from_sorted, entries-from_sorted, get-from_entries, get-from_sorted}
 use Rattle.serde_json.specs.Data.{null, no_items}
 use Rattle.serde_json.specs.Read.{read}
+use Rattle.ov_specs.specs.operations.Mutate.{column_mutated}
+use Rattle.ov_specs.specs.operations.Mutators.{Change, Mutation}
 use Rattle.ov_specs.specs.operations.Operation.{outcome_of}
 use Rattle.ov_specs.specs.operations.OpOutcome.{Owns, OpContext, OpOutcome}
-use Rattle.ov_specs.specs.rows.Database.{Database}
+use Rattle.ov_specs.specs.rows.Database.{Columns, Database}
 use Rattle.ov_specs.specs.schema.SchemaTypes.{BaseType, Column, Table, Schema, name_cmp}
 use Rattle.ov_specs.specs.values.Uuid.{Uuid}
 use Rattle.ov_specs.specs.values.Value.{AtomKind, Integers, Texts, Uuids}
+use Rattle.ov_specs.proofs.laws.Mutating.{mutated_at, column_mutated-at}
 use Rattle.ov_specs.proofs.laws.Names.{name_cmp_total, name_exact}
 
 -- ---- maps made of a list, by name
@@ -115,3 +118,12 @@ done_at age rows text = option_map (outcome_of (alone rows age) 0 rows) (read te
 -- what it comes to in a transaction that has just arrived
 abbrev pub done_on : Database → List ℕ → Option OpOutcome
 done_on = done_at 0
+
+-- ---- mutations of the load
+
+abbrev pub of_load : Change → Mutation
+of_load change = record { column = codes "load"; type_of = integer.type_of; change = change }
+
+-- it is mutated where it is found
+pub load_mutated : (change : Change) (columns : Columns) → column_mutated (of_load change) columns ≡ mutated_at (of_load change) columns (get columns (codes "load"))
+load_mutated change columns = column_mutated-at (of_load change) columns

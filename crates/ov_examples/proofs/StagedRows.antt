@@ -6,6 +6,7 @@ use Rattle.serde_json.proofs.OnLiterals.{serde_json_on_literals}
 use Rattle.ov_specs.specs.operations.Errors.{ConstraintViolation, DomainError, RangeError, DuplicateUuid}
 use Rattle.ov_specs.specs.operations.MatchingRows.{count_result}
 use Rattle.ov_specs.specs.operations.Insert.{insert_result}
+use Rattle.ov_specs.specs.operations.Mutators.{Compute, Plus, Minus, Times, Over}
 use Rattle.ov_specs.specs.operations.OpOutcome.{Done, Fault}
 use Rattle.ov_specs.specs.rows.Database.{object_of}
 use Rattle.ov_specs.specs.schema.SchemaTypes.{name_cmp}
@@ -13,7 +14,7 @@ use Rattle.ov_specs.specs.values.Value.{Integer, Text, Atoms, set_of}
 use Rattle.ov_specs.proofs.laws.LineKeys.{key_total}
 use Rattle.ov_specs.proofs.laws.Names.{name_cmp_total}
 use Rattle.ov_examples.proofs.ConditionRows.{len-one}
-use Rattle.ov_examples.proofs.NetRows.{numbered, table_is, on_switch, on_port, entries-switch, done_on}
+use Rattle.ov_examples.proofs.NetRows.{numbered, table_is, on_switch, on_port, entries-switch, load_mutated, done_on}
 use Rattle.ov_examples.proofs.TwoSwitches.{one, entries-one, entries-none, len-none, columns_1, columns_2, in_1, in_2, key, row, rows, entries-rows, row_1, row_2, no_row_2, entries-columns_1, entries-columns_2, entries-1, entries-2, entries-again, entries-given, given_load, given_name, given_ports, text_s1}
 
 -- ---- delete
@@ -87,45 +88,45 @@ mutate_nothing =
 pub sum_out_of_range : done_on rows (codes "{\"mutations\":[[\"load\",\"+=\",9223372036854775807]],\"op\":\"mutate\",\"table\":\"Switch\",\"where\":[]}") ≡ Some (Fault RangeError)
 unfolding serde_json_on_literals
 sum_out_of_range =
-    rw (table_is (codes "Switch")) (rw (on_switch (codes "load")) (rw (entries-one (Integer (pos 9223372036854775807)), entries-rows) (rw (in_1 (codes "load")) (rw (entries-one (Integer (pos 4))) refl))))
+    rw (table_is (codes "Switch")) (rw (on_switch (codes "load")) (rw (entries-one (Integer (pos 9223372036854775807)), entries-rows) (rw (load_mutated (Compute Plus (pos 9223372036854775807)) columns_1, in_1 (codes "load")) (rw (entries-one (Integer (pos 4))) refl))))
 
 -- also one that a later mutation would bring back into the range
 pub each_value_is_tested : done_on rows (codes "{\"mutations\":[[\"load\",\"*=\",4611686018427387904],[\"load\",\"*=\",0]],\"op\":\"mutate\",\"table\":\"Switch\",\"where\":[]}") ≡ Some (Fault RangeError)
 unfolding serde_json_on_literals
 each_value_is_tested =
-    rw (table_is (codes "Switch")) (rw (on_switch (codes "load")) (rw (entries-one (Integer (pos 4611686018427387904)), entries-one (Integer (pos 0))) (rw entries-rows (rw (in_1 (codes "load")) (rw (entries-one (Integer (pos 4))) refl)))))
+    rw (table_is (codes "Switch")) (rw (on_switch (codes "load")) (rw (entries-one (Integer (pos 4611686018427387904)), entries-one (Integer (pos 0))) (rw entries-rows (rw (load_mutated (Compute Times (pos 4611686018427387904)) columns_1, in_1 (codes "load")) (rw (entries-one (Integer (pos 4))) refl)))))
 
 -- the rows one after another: the first has all its mutations before the second, whose sum would be out of range
 pub rows_one_after_another : done_on rows (codes "{\"mutations\":[[\"load\",\"+=\",9223372036854775802],[\"load\",\"/=\",0]],\"op\":\"mutate\",\"table\":\"Switch\",\"where\":[]}") ≡ Some (Fault DomainError)
 unfolding serde_json_on_literals
 rows_one_after_another =
-    rw (table_is (codes "Switch")) (rw (on_switch (codes "load")) (rw (entries-one (Integer (pos 9223372036854775802)), entries-one (Integer (pos 0))) (rw entries-rows (rw (in_1 (codes "load")) (rw (entries-one (Integer (pos 4)))
-    (rw (len-one (Integer (pos 9223372036854775806)), entries-one (Integer (pos 9223372036854775806))) (rw (get-insert name_cmp_total columns_1 (codes "load") (one (Integer (pos 9223372036854775806))) (codes "load"))
+    rw (table_is (codes "Switch")) (rw (on_switch (codes "load")) (rw (entries-one (Integer (pos 9223372036854775802)), entries-one (Integer (pos 0))) (rw entries-rows (rw (load_mutated (Compute Plus (pos 9223372036854775802)) columns_1, in_1 (codes "load")) (rw (entries-one (Integer (pos 4)))
+    (rw (len-one (Integer (pos 9223372036854775806)), entries-one (Integer (pos 9223372036854775806))) (rw (load_mutated (Compute Over (pos 0)) (insert columns_1 (codes "load") (one (Integer (pos 9223372036854775806)))), get-insert name_cmp_total columns_1 (codes "load") (one (Integer (pos 9223372036854775806))) (codes "load"))
     (rw (entries-one (Integer (pos 9223372036854775806))) refl))))))))
 
 -- a fault of a later row counts as well
 pub second_sum_out_of_range : done_on rows (codes "{\"mutations\":[[\"load\",\"+=\",9223372036854775802]],\"op\":\"mutate\",\"table\":\"Switch\",\"where\":[]}") ≡ Some (Fault RangeError)
 unfolding serde_json_on_literals
 second_sum_out_of_range =
-    rw (table_is (codes "Switch")) (rw (on_switch (codes "load")) (rw (entries-one (Integer (pos 9223372036854775802)), entries-rows) (rw (in_1 (codes "load"), in_2 (codes "load")) (rw (entries-one (Integer (pos 4)), entries-one (Integer (pos 6)))
+    rw (table_is (codes "Switch")) (rw (on_switch (codes "load")) (rw (entries-one (Integer (pos 9223372036854775802)), entries-rows) (rw (load_mutated (Compute Plus (pos 9223372036854775802)) columns_1, in_1 (codes "load"), load_mutated (Compute Plus (pos 9223372036854775802)) columns_2, in_2 (codes "load")) (rw (entries-one (Integer (pos 4)), entries-one (Integer (pos 6)))
     (rw (len-one (Integer (pos 9223372036854775806)), entries-one (Integer (pos 9223372036854775806))) refl)))))
 
 pub divided_by_zero : done_on rows (codes "{\"mutations\":[[\"load\",\"/=\",0]],\"op\":\"mutate\",\"table\":\"Switch\",\"where\":[]}") ≡ Some (Fault DomainError)
 unfolding serde_json_on_literals
 divided_by_zero =
-    rw (table_is (codes "Switch")) (rw (on_switch (codes "load")) (rw (entries-one (Integer (pos 0)), entries-rows) (rw (in_1 (codes "load")) (rw (entries-one (Integer (pos 4))) refl))))
+    rw (table_is (codes "Switch")) (rw (on_switch (codes "load")) (rw (entries-one (Integer (pos 0)), entries-rows) (rw (load_mutated (Compute Over (pos 0)) columns_1, in_1 (codes "load")) (rw (entries-one (Integer (pos 4))) refl))))
 
 pub mutate_both : done_on rows (codes "{\"mutations\":[[\"load\",\"+=\",1]],\"op\":\"mutate\",\"table\":\"Switch\",\"where\":[]}") ≡ Some (Done (count_result 2) (insert (insert rows (key 7) (record { version = numbered 1; columns = insert columns_1 (codes "load") (one (Integer (pos 5))) })) (key 8) (record { version = numbered 1; columns = insert columns_2 (codes "load") (one (Integer (pos 7))) })))
 unfolding serde_json_on_literals
 mutate_both =
-    rw (table_is (codes "Switch")) (rw (on_switch (codes "load")) (rw (entries-one (Integer (pos 1)), entries-rows) (rw (in_1 (codes "load"), in_2 (codes "load")) (rw (entries-one (Integer (pos 4)), entries-one (Integer (pos 6))) (rw (len-one (Integer (pos 5)), entries-one (Integer (pos 5))) (rw (len-one (Integer (pos 7)), entries-one (Integer (pos 7)))
+    rw (table_is (codes "Switch")) (rw (on_switch (codes "load")) (rw (entries-one (Integer (pos 1)), entries-rows) (rw (load_mutated (Compute Plus (pos 1)) columns_1, in_1 (codes "load"), load_mutated (Compute Plus (pos 1)) columns_2, in_2 (codes "load")) (rw (entries-one (Integer (pos 4)), entries-one (Integer (pos 6))) (rw (len-one (Integer (pos 5)), entries-one (Integer (pos 5))) (rw (len-one (Integer (pos 7)), entries-one (Integer (pos 7)))
     (rw (row_1, row_2) (rw (entries-columns_1, entries-columns_2) (rw (entries-1 (codes "load") (one (Integer (pos 5))), entries-2 (codes "load") (one (Integer (pos 7)))) (rw (entries-one (Integer (pos 4)), entries-one (Integer (pos 6))) (rw (entries-one (Integer (pos 5)), entries-one (Integer (pos 7))) refl)))))))))))
 
 pub mutations_in_order : done_on rows (codes "{\"mutations\":[[\"load\",\"*=\",2],[\"load\",\"-=\",3]],\"op\":\"mutate\",\"table\":\"Switch\",\"where\":[[\"load\",\"<\",5]]}") ≡ Some (Done (count_result 1) (insert rows (key 7) (record { version = numbered 1; columns = insert (insert columns_1 (codes "load") (one (Integer (pos 8)))) (codes "load") (one (Integer (pos 5))) })))
 unfolding serde_json_on_literals
 mutations_in_order =
     rw (table_is (codes "Switch")) (rw (on_switch (codes "load")) (rw (len-one (Integer (pos 5))) (rw (entries-one (Integer (pos 2)), entries-one (Integer (pos 3))) (rw entries-rows (rw (in_1 (codes "load"), in_2 (codes "load")) (rw (entries-one (Integer (pos 4)), entries-one (Integer (pos 6)), entries-one (Integer (pos 5)))
-    (rw (in_1 (codes "load")) (rw (entries-one (Integer (pos 4))) (rw (len-one (Integer (pos 8)), entries-one (Integer (pos 8))) (rw (get-insert name_cmp_total columns_1 (codes "load") (one (Integer (pos 8))) (codes "load")) (rw (entries-one (Integer (pos 8))) (rw (len-one (Integer (pos 5)), entries-one (Integer (pos 5)))
+    (rw (load_mutated (Compute Times (pos 2)) columns_1, in_1 (codes "load")) (rw (entries-one (Integer (pos 4))) (rw (len-one (Integer (pos 8)), entries-one (Integer (pos 8))) (rw (load_mutated (Compute Minus (pos 3)) (insert columns_1 (codes "load") (one (Integer (pos 8)))), get-insert name_cmp_total columns_1 (codes "load") (one (Integer (pos 8))) (codes "load")) (rw (entries-one (Integer (pos 8))) (rw (len-one (Integer (pos 5)), entries-one (Integer (pos 5)))
     (rw row_1 (rw entries-columns_1 (rw (entries-again (codes "load") (one (Integer (pos 8))) (one (Integer (pos 5)))) (rw (entries-one (Integer (pos 4)), entries-one (Integer (pos 5))) refl))))))))))))))))
 
 -- ---- insert

@@ -15,6 +15,7 @@ use Rattle.ov_specs.specs.operations.Errors.{DuplicateName, error_tree}
 use Rattle.ov_specs.specs.operations.GivenRow.{may_be_new, given_values}
 use Rattle.ov_specs.specs.operations.Insert.{new_row, with_defaults, insert_result}
 use Rattle.ov_specs.specs.operations.MatchingRows.{count_result}
+use Rattle.ov_specs.specs.operations.Mutators.{Compute, Modulo}
 use Rattle.ov_specs.specs.operations.OpOutcome.{OpContext, Done, names_in}
 use Rattle.ov_specs.specs.rows.Database.{Columns, Row, Database}
 use Rattle.ov_specs.specs.rows.Lines.{line_cmp}
@@ -28,7 +29,7 @@ use Rattle.ov_specs.proofs.laws.LineKeys.{key_total}
 use Rattle.ov_specs.proofs.laws.Names.{name_cmp_total}
 use Rattle.ov_examples.proofs.ConditionRows.{len-one}
 use Rattle.ov_examples.proofs.NetRows as net_rows
-use Rattle.ov_examples.proofs.NetRows.{numbered, owns_none, net, table_of, table_is, entries-tables, switch_columns, on_switch, on_port, entries-switch, entries-port}
+use Rattle.ov_examples.proofs.NetRows.{numbered, owns_none, net, table_of, table_is, entries-tables, switch_columns, on_switch, on_port, entries-switch, entries-port, load_mutated}
 use Rattle.ov_examples.proofs.TwoSwitches.{one, entries-one, entries-none, len-none, key, row, columns_1, entries-columns_1, entries-1, entries-again, entries-given, entries-given_all, rows, entries-rows, entries-put, entries-deleted, given, given_load, given_name, given_ports, text_s1}
 
 -- what the transaction of a text comes to, with draws from 1 on
@@ -298,7 +299,7 @@ update_does =
 
 mutate_does : outcome_of in_edges 1 seven_rows mutate_load ≡ Done (count_result 1) left_rows
 mutate_does =
-    rw (table_is (codes "Switch")) (rw (on_switch (codes "load")) (rw (entries-one (Integer (pos 2))) (rw entries-seven (rw seven_load (rw (entries-one seven) (rw (len-one left, entries-one left)
+    rw (table_is (codes "Switch")) (rw (on_switch (codes "load")) (rw (entries-one (Integer (pos 2))) (rw entries-seven (rw (load_mutated (Compute Modulo (pos 2)) seven_row.columns, seven_load) (rw (entries-one seven) (rw (len-one left, entries-one left)
     (rw in_lone (rw (entries-columns_1, entries-again (codes "load") (one seven) (one left)) (rw (entries-one (Integer (pos 4)), entries-one left) refl)))))))))
 
 abbrev load_shown : Data

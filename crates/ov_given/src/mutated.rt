@@ -68,18 +68,19 @@ fn mutated_value(alloc: Global, mutation: &Mutation<'_>, datum: &Datum) -> Resul
     }
 }
 
-/// What a mutation makes of its column of a row. A row has a value for each column that can be mutated.
+/// What a mutation makes of the columns of a row: its own column is mutated, and the others stay.
 fn column_mutated(
     alloc: Global,
     mutation: &Mutation<'_>,
-    columns: &Columns,
-) -> Result<Datum, OpFault>
-    ensures { IsOpResult (λ d. d) (mutate.column_mutated mutation.now columns.now) result }
+    columns: Columns,
+) -> Result<Columns, OpFault>
+    ensures { IsOpResult (λ c. c) (mutate.column_mutated mutation.now columns) result }
 {
-    match columns.get(mutation.column()) {
-        Some(datum) => mutated_value(alloc, mutation, datum),
-        None => Err(OpFault::Refused(OpError::Constraint)),
-    }
+    let Some(datum) = columns.get(mutation.column()) else {
+        return Ok(columns);
+    };
+    let changed = mutated_value(alloc, mutation, datum)?;
+    Ok(columns.with_value(alloc, mutation.column(), changed)?)
 }
 
 /// What the mutations, one after another, make of the columns of a row, or the fault of the first that has one. Each value is
@@ -93,8 +94,7 @@ pub fn mutated_columns(
 {
     let mut mutated = columns.copy(alloc)?;
     for mutation in mutations {
-        let datum = column_mutated(alloc, mutation, &mutated)?;
-        mutated = mutated.with_value(alloc, mutation.column(), datum)?;
+        mutated = column_mutated(alloc, mutation, mutated)?;
     }
     Ok(mutated)
 }

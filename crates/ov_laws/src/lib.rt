@@ -1,7 +1,7 @@
 //! Laws of the definitions. Each function has an empty body, and its contract is a law.
 #![tactic(auto)]
 
-ghost use Rattle.std.specs.FinMap.{get};
+ghost use Rattle.std.specs.FinMap.{get, insert};
 ghost use Rattle.std.specs.List.{list_all};
 ghost use Rattle.std.specs.Prelude.{◌≡◌, ◌≢◌, ◌⊎◌, ◌↔◌, ◌++◌, ◌+◌, ◌-◌, ◌*◌, ◌<◌, ◌≤◌, ℕ, nat_le};
 ghost use Rattle.std.specs.Prelude.{List, [], ◌∷◌, Option, Some, None, is_some, option_map};
@@ -17,6 +17,8 @@ ghost use Rattle.ov_specs.specs.machine.Machine.{Outcome, Committed, Failed, NoM
 ghost use Rattle.ov_specs.specs.machine.Machine.{Outstanding, Passed, Transact, step, works};
 ghost use Rattle.ov_specs.specs.machine.Machine.{arrived, tries_again, is_kept, settle, results_to};
 ghost use Rattle.ov_specs.specs.machine.Machine.{opening};
+ghost use Rattle.ov_specs.specs.operations.Mutate.{column_mutated, mutated_value};
+ghost use Rattle.ov_specs.specs.operations.Mutators.{Mutation};
 ghost use Rattle.ov_specs.specs.operations.OpOutcome.{empty_result};
 ghost use Rattle.ov_specs.specs.operations.Transaction.{Completes, Waits, transaction, has_error};
 ghost use Rattle.ov_specs.specs.machine.Blocked.{AreBlocked};
@@ -29,11 +31,13 @@ ghost use Rattle.ov_specs.specs.schema.Schema.{accepted, IsAccepted};
 ghost use Rattle.ov_specs.specs.schema.SameType.{same_type};
 ghost use Rattle.ov_specs.specs.schema.SchemaTypes.{Column, ColumnType, Table, Schema};
 ghost use Rattle.ov_specs.specs.conversion.Carried.{carried};
-ghost use Rattle.ov_specs.specs.rows.Database.{Row, Database, same_database};
+ghost use Rattle.ov_specs.specs.rows.Database.{Columns, Row, Database, same_database};
 ghost use Rattle.ov_specs.specs.rows.Lines.{LineKey};
 ghost use Rattle.ov_specs.specs.machine.History.{run, requests, closed_by};
 ghost use Rattle.ov_specs.specs.machine.Streams.{StreamEvent, Streams, ExpandsTimed, fed_state};
+ghost use Rattle.ov_specs.specs.values.Results.{result_map};
 ghost use Rattle.ov_specs.specs.values.Uuid.{Uuid, is_uuid};
+ghost use Rattle.ov_specs.specs.values.Value.{Datum};
 ghost use Rattle.ov_laws.specs.Asserting.{item_at, Asserts};
 ghost use Rattle.ov_laws.specs.Attempts.{attempts_of, most_attempts};
 ghost use Rattle.ov_laws.specs.Blocking.{LeavesBlocked};
@@ -396,6 +400,16 @@ pub fn a_conversion_keeps_what_both_schemas_have()
         (row : Row)
         → get (carried old new version before) key ≡ Some row
         → (former : Row) × (get before key ≡ Some former) }
+{}
+
+/// A mutation of a row of a table mutates the value that the row has in the mutation's column, and leaves the other columns as
+/// they are; or it has the fault of that value (RFC 7047, 5.2.4).
+pub fn a_mutation_changes_its_column_alone()
+    ensures { (table : Table) (columns : Columns) (m : Mutation)
+        → SuitsTable table columns → is_some (column_of_row table m.column) ≡ true
+        → (old : Datum) × (get columns m.column ≡ Some old)
+        × (column_mutated m columns
+        ≡ result_map (λ datum. insert columns m.column datum) (mutated_value m old)) }
 {}
 
 /// Two columns have the same type exactly if all parts of their types are equal (RFC 7047, 3.2, `<type>`).

@@ -29,6 +29,7 @@ pub mod RowReading
 pub mod SuitingColumns
 pub mod Suiting
 pub mod FoundRows
+pub mod Mutating
 pub mod MadeRows
 pub mod OutcomeSuiting
 pub mod StepKeeping

@@ -1,6 +1,6 @@
 -- What is given to a row, and what mutations make of it, suits its table.
 use Rattle.std.proofs.Common.{◌≡◌, ℕ, List, [], ◌∷◌, map, Bool, true, false, cond, Option, Some, None, if◌then◌else◌, refl, sym, ap, subst, ◌∙◌}
-use Rattle.std.specs.Prelude.{◌&&◌, not, ok_or, Result, Ok, Err}
+use Rattle.std.specs.Prelude.{◌&&◌, not, Result, Ok, Err}
 use Rattle.std.specs.List.{list_all}
 use Rattle.std.specs.FinMap.{empty, get, insert, keys, entries, get-insert}
 use Rattle.std.proofs.lemmas.Bool.{and_parts, and_from}
@@ -10,7 +10,7 @@ use Rattle.ov_specs.specs.operations.Conditions.{Triple, triple_read}
 use Rattle.ov_specs.specs.operations.Errors.{OpError, ConstraintViolation}
 use Rattle.ov_specs.specs.operations.GivenRow.{may_be_new, may_be_changed, given_value, given_values, with_values, fitting_reading}
 use Rattle.ov_specs.specs.operations.Insert.{new_row, with_defaults}
-use Rattle.ov_specs.specs.operations.Mutate.{mutations_read, mutate_error, mutated_value, column_mutated, mutated_columns, mutated_rows}
+use Rattle.ov_specs.specs.operations.Mutate.{mutations_read, mutate_error, mutated_value, mutated_columns, mutated_rows}
 use Rattle.ov_specs.specs.operations.Mutators.{Change, Compute, Insert, Delete, Mutation, MutationFault, mutation_error, NotMutable, Mutator, mutator_on, change_read, with_change, with_mutator, mutation_on, mutation_of, mutation_read, suits_mutation, MutateError, Domain, Range, Constraint, divides_by_zero, computed_atom, has_equal_two, fitting, of_results, inserted, deleted, mutated}
 use Rattle.ov_specs.specs.rows.RowNames.{is_own_column}
 use Rattle.ov_specs.specs.operations.Update.{updated_row}
@@ -25,6 +25,7 @@ use Rattle.ov_specs.specs.values.Value.{Integers, is_atom_of, Atom, Datum, Atoms
 use Rattle.ov_specs.specs.schema.Fitting.{fits}
 use Rattle.ov_specs.specs.schema.Schema.{is_empty}
 use Rattle.ov_specs.proofs.laws.Names.{name_cmp_total, same_name, same_name-is, EachEntry, each_entry}
+use Rattle.ov_specs.proofs.laws.Mutating.{mutated_at, column_mutated-at}
 use Rattle.ov_specs.proofs.laws.OfColumns.{mutation_read_suits, mutated_is_of}
 use Rattle.ov_specs.proofs.laws.OfKinds.{reads_is_of}
 use Rattle.ov_specs.proofs.laws.Results.{first_of_all}
@@ -225,25 +226,25 @@ module _ (table : Table) (m : Mutation) (of : IsOf table m) where
       by true k = cc
       by false k = k
 
-  value_is_one : (columns : Columns) (datum : Datum) → SuitsTable table columns → column_mutated m columns ≡ Ok datum → suits_column (column_of_row table m.column) (Some datum) ≡ true
-  value_is_one columns datum suits = by (get columns m.column) refl
-    where
-      by : (o : Option Datum) → get columns m.column ≡ o → result_and_then (mutated_value m) (ok_or o ConstraintViolation) ≡ Ok datum → suits_column (column_of_row table m.column) (Some datum) ≡ true
-      by None is h = cc
-      by (Some old) is h =
-          made_is_one old datum (column_of_row table m.column) refl (sym (ap (suits_column (column_of_row table m.column)) is) ∙ suits m.column) (no_error (mutated m.type_of m.change old) datum h)
+  value_is_one : (columns : Columns) (old datum : Datum) → SuitsTable table columns → get columns m.column ≡ Some old → mutated_value m old ≡ Ok datum → suits_column (column_of_row table m.column) (Some datum) ≡ true
+  value_is_one columns old datum suits is h =
+      made_is_one old datum (column_of_row table m.column) refl (sym (ap (suits_column (column_of_row table m.column)) is) ∙ suits m.column) (no_error (mutated m.type_of m.change old) datum h)
 
 pub mutated_suit : (table : Table) (ms : List Mutation) → AreOf table ms → (columns : Columns) → SuitsTable table columns → MakesRow table (mutated_columns ms columns)
 mutated_suit table [] of columns suits = suits
 mutated_suit table (m ∷ ms) of columns suits =
-    by (column_mutated m columns) refl
-    (λ datum is_one. mutated_suit table ms of.1 (insert columns m.column datum) (put_column_suits table columns m.column datum is_one suits))
+    subst (λ r. MakesRow table (result_and_then (λ changed. mutated_columns ms changed) r)) (sym (column_mutated-at m columns))
+    (by (get columns m.column) refl (λ changed changed_suits. mutated_suit table ms of.1 changed changed_suits))
   where
-    by : (r : Result Datum OpError) → column_mutated m columns ≡ r
-        → ((datum : Datum) → suits_column (column_of_row table m.column) (Some datum) ≡ true → MakesRow table (mutated_columns ms (insert columns m.column datum)))
-        → MakesRow table (result_and_then (λ datum. mutated_columns ms (insert columns m.column datum)) r)
-    by (Err error) is next = tt
-    by (Ok datum) is next = next datum (value_is_one table m of.0 columns datum suits is)
+    made : (old : Datum) → get columns m.column ≡ Some old → (r : Result Datum OpError) → mutated_value m old ≡ r → ((changed : Columns) → SuitsTable table changed → MakesRow table (mutated_columns ms changed))
+        → MakesRow table (result_and_then (λ changed. mutated_columns ms changed) (result_map (λ datum. insert columns m.column datum) r))
+    made old is (Err error) h next = tt
+    made old is (Ok datum) h next = next (insert columns m.column datum) (put_column_suits table columns m.column datum (value_is_one table m of.0 columns old datum suits is h) suits)
+
+    by : (o : Option Datum) → get columns m.column ≡ o → ((changed : Columns) → SuitsTable table changed → MakesRow table (mutated_columns ms changed))
+        → MakesRow table (result_and_then (λ changed. mutated_columns ms changed) (mutated_at m columns o))
+    by None is next = next columns suits
+    by (Some old) is next = made old is (mutated_value m old) refl next
 
 abbrev pub MakesRows : Schema → Table → Result (List (LineKey × Columns)) OpError → Type 0
 MakesRows schema table (Ok changed) = AreMade schema table changed

@@ -1,8 +1,10 @@
 -- mutate: applies the mutations to the rows that match (RFC 7047, 5.2.4).
-use Rattle.std.specs.Prelude.{List, [], ◌∷◌, length, ok_or, codes, Result, Ok}
-use Rattle.std.specs.FinMap.{get, insert}
+use Rattle.std.specs.Prelude.{ℕ, List, [], ◌∷◌, length, if◌then◌else◌, codes, Result, Ok}
+use Rattle.std.specs.FinMap.{entries, from_entries}
+use Rattle.std.specs.Str.{bytes_eq}
 use Rattle.serde_json.specs.Data.{Data, Items}
 use Rattle.ov_specs.specs.operations.Errors.{OpError, SyntaxError, ConstraintViolation, DomainError, RangeError}
+use Rattle.ov_specs.specs.operations.GivenRow.{named_value}
 use Rattle.ov_specs.specs.operations.MatchingRows.{on_conditions, count_result, put_rows, matching}
 use Rattle.ov_specs.specs.operations.Mutators.{Mutation, mutation_error, mutation_read, MutateError, Domain, Range, Constraint, mutated}
 use Rattle.ov_specs.specs.operations.Members.{array_at}
@@ -35,16 +37,19 @@ mutate_error Constraint = ConstraintViolation
 abbrev pub mutated_value : Mutation → Datum → Result Datum OpError
 mutated_value m datum = result_map_err mutate_error (mutated m.type_of m.change datum)
 
--- What a mutation makes of its column. A row has a value in each column that can be mutated.
-abbrev pub column_mutated : Mutation → Columns → Result Datum OpError
-column_mutated m columns = result_and_then (mutated_value m) (ok_or (get columns m.column) ConstraintViolation)
+-- an entry of a row, with what the mutation makes of its value if its column is the mutation's, and else as it is
+abbrev pub entry_mutated : Mutation → List ℕ × Datum → Result (List ℕ × Datum) OpError
+entry_mutated m c = if bytes_eq c.0 m.column then named_value c.0 (mutated_value m c.1) else Ok c
+
+-- What a mutation makes of the columns of a row: its own column is mutated, and the others stay (RFC 7047, 5.2.4).
+abbrev pub column_mutated : Mutation → Columns → Result Columns OpError
+column_mutated m columns = result_map from_entries (each_or_fault (entry_mutated m) (entries columns))
 
 -- applies the mutations one after another to the columns of a row; each value is tested before the next mutation (RFC 7047,
 -- 5.2.4)
 abbrev pub mutated_columns : List Mutation → Columns → Result Columns OpError
 mutated_columns [] columns = Ok columns
-mutated_columns (m ∷ mutations) columns =
-    result_and_then (λ datum. mutated_columns mutations (insert columns m.column datum)) (column_mutated m columns)
+mutated_columns (m ∷ mutations) columns = result_and_then (λ changed. mutated_columns mutations changed) (column_mutated m columns)
 
 -- a row after the mutations
 abbrev pub mutated_row : List Mutation → LineKey × Row → Result (LineKey × Columns) OpError
