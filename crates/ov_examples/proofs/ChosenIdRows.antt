@@ -139,13 +139,13 @@ v_is_deleted_is_answered = refl
 -- ---- where it is free
 
 -- a row that the transaction has inserted and deleted
-pub free_after_delete : is_taken (in_these empty [] no_items) (remove with_v key) key true ≡ false
+pub free_after_delete : is_taken empty (remove with_v key) key true ≡ false
 free_after_delete = rw (v-gone, get-empty line_cmp key) refl
 
 -- a row of another table
-pub free_in_other_table : is_taken (in_these with_v [] no_items) with_v (codes "Port", v) true ≡ false
+pub free_in_other_table : is_taken with_v with_v (codes "Port", v) true ≡ false
 free_in_other_table = rw (get-insert line_cmp_total empty key s1 (codes "Port", v), get-empty line_cmp (codes "Port", v)) refl
 
 -- a draw is compared with the rows as they are alone
-pub draw_of_a_deleted_row : is_taken (in_these with_v [] no_items) (remove with_v key) key false ≡ false
+pub draw_of_a_deleted_row : is_taken with_v (remove with_v key) key false ≡ false
 draw_of_a_deleted_row = rw v-gone refl

@@ -1,5 +1,4 @@
-ghost use Rattle.std.specs.Prelude.{◌≡◌, ◌&&◌, ◌||◌};
-ghost use Rattle.std.specs.FinMap.{contains_key};
+ghost use Rattle.std.specs.Prelude.{◌≡◌};
 ghost use Rattle.serde_json.specs.View.{view};
 ghost use Rattle.ov_specs.specs.operations.Insert as spec;
 ghost use Rattle.ov_ops.specs.Outcomes.{context_of, IsDone};
@@ -18,9 +17,7 @@ use uuid::Uuid;
 
 /// Whether a row of the table has the identifier now; or had it before the transaction, if it was chosen.
 fn is_taken(stage: &Stage<'_>, key: &RowKey, is_chosen: bool) -> bool
-    ensures { result
-        ≡ (contains_key stage.now.now key.now ||
-        (is_chosen && contains_key stage.now.before key.now)) }
+    ensures { result ≡ spec.is_taken stage.now.before stage.now.now key.now is_chosen }
 {
     stage.contains(key) || (is_chosen && stage.before().contains(key))
 }

@@ -94,7 +94,7 @@ module _ (c : OpContext) (all : Suits c.schema c.before) (is_version : is_uuid c
         → SuitsOutcome c.schema (put_new c rows name columns is_chosen id)
     new_suits name table columns is_chosen id named made is_id =
         let key : LineKey = (name, id) in
-        if_suits c.schema (is_taken c rows key is_chosen) _ _ tt
+        if_suits c.schema (is_taken c.before rows key is_chosen) _ _ tt
         (one_row_suits c.schema rows key (row_now c.before c.version key columns) (row_suits c.schema c.before c.version table key columns all is_version (record { named = named; id = is_id; suits = made })) suits)
 
     insert_suits : (place : ℕ) (d : Data) → SuitsOutcome c.schema (insert_outcome c place rows d)

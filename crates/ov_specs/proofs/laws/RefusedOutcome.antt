@@ -60,7 +60,7 @@ module _ (c : OpContext) where
   plain_on_conditions table d next h = plain_some (array_at (codes "where") d) SyntaxError _ (λ items. plain_ok (conditions_read (names_in c) table items) _ h)
 
   plain_new : (rows : Database) (name : List ℕ) (columns : Columns) (is_chosen : Bool) (id : Uuid) → is_plain (put_new c rows name columns is_chosen id) ≡ true
-  plain_new rows name columns is_chosen id = plain_if (is_taken c rows (name, id) is_chosen) _ _ refl refl
+  plain_new rows name columns is_chosen id = plain_if (is_taken c.before rows (name, id) is_chosen) _ _ refl refl
 
   plain_insert : (place : ℕ) (rows : Database) (d : Data) → is_plain (insert_outcome c place rows d) ≡ true
   plain_insert place rows d = plain_on_table d _ (λ name table.

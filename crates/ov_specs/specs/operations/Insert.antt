@@ -69,15 +69,15 @@ new_row names table members = result_and_then (with_defaults table) (given_value
 abbrev pub insert_result : Uuid → Data
 insert_result id = object_of ((codes "uuid", atom_tree (value.Uuid id)) ∷ [])
 
--- A row of the table has the identifier. One that was chosen is also taken if a row had it before the transaction, even if that
--- row is deleted now (this is this server's).
-abbrev pub is_taken : OpContext → Database → LineKey → Bool → Bool
-is_taken c rows key is_chosen = contains_key rows key || (is_chosen && contains_key c.before key)
+-- A row of the table has the identifier now. One that was chosen is also taken if a row had it before the transaction, even if
+-- that row is deleted now (this is this server's).
+abbrev pub is_taken : Database → Database → LineKey → Bool → Bool
+is_taken before now key is_chosen = contains_key now key || (is_chosen && contains_key before key)
 
 -- puts the row under its identifier, which may not be taken (RFC 7047, 5.2.1)
 abbrev pub put_new : OpContext → Database → List ℕ → Columns → Bool → Uuid → OpOutcome
 put_new c rows table columns is_chosen id =
-    if is_taken c rows (table, id) is_chosen then Fault DuplicateUuid
+    if is_taken c.before rows (table, id) is_chosen then Fault DuplicateUuid
     else Done (insert_result id) (insert rows (table, id) (row_now c.before c.version (table, id) columns))
 
 -- The insert at this place of the transaction. Its members are checked in this order: "table"; "uuid"; "uuid-name"; "row" (RFC
