@@ -4,17 +4,13 @@ use Rattle.std.specs.FinMap.{empty, get, insert, entries, find, is_sorted, from_
 use Rattle.std.specs.FinMap.Entries.{below_all}
 use Rattle.std.specs.Ordering.{is_lt}
 use Rattle.ov_specs.specs.conversion.Carried.{carried_value, carried_columns}
+use Rattle.ov_specs.specs.operations.GivenRow.{with_values}
 use Rattle.ov_specs.specs.rows.Database.{Columns}
 use Rattle.ov_specs.specs.rows.RowNames.{is_own_column, row_columns}
 use Rattle.ov_specs.specs.schema.SchemaTypes.{name_cmp, Column, Table}
 use Rattle.ov_specs.specs.values.Value.{Datum}
 use Rattle.ov_specs.proofs.laws.Names.{name_cmp_total, name_exact, same_name, find-first_not_later, sorted_rest}
 use Rattle.ov_specs.proofs.laws.PrunedValues.{is_sorted-filter}
-
--- with these values in the columns of their names
-abbrev pub with_values : List (List ℕ × Datum) → Columns → Columns
-with_values [] columns = columns
-with_values (c ∷ cs) columns = with_values cs (insert columns c.0 c.1)
 
 -- the value that is found, or else the one that stands there
 abbrev or_stands : Option Datum → Option Datum → Option Datum
@@ -33,7 +29,7 @@ get-with_values (c ∷ cs) columns name sorted =
     by false other = refl
 
 -- the values, if their names ascend
-with_values-is : (cs : List (List ℕ × Datum)) → T (is_sorted name_cmp cs) → with_values cs empty ≡ from_entries cs
+with_values-is : (cs : List (List ℕ × Datum)) → T (is_sorted name_cmp cs) → with_values cs (empty {R = name_cmp}) ≡ from_entries cs
 with_values-is cs sorted = same_map name_cmp_total name_exact _ _ (λ name.
     get-with_values cs empty name sorted ∙ by name (find name_cmp name cs) ∙ sym (get-from_entries name_cmp_total cs name))
   where
@@ -52,7 +48,7 @@ module _ (made : List ℕ × Column → Datum) where
 
 -- the columns that are carried over
 pub carried_columns-is : (old new : Table) (columns : Columns)
-    → with_values (map (λ c. (c.0, carried_value old columns c)) (filter (λ c. not (is_own_column c.0)) (entries new.columns))) empty ≡ carried_columns old new columns
+    → with_values (map (λ c. (c.0, carried_value old columns c)) (filter (λ c. not (is_own_column c.0)) (entries new.columns))) (empty {R = name_cmp}) ≡ carried_columns old new columns
 carried_columns-is old new columns =
     with_values-is (map (λ c. (c.0, carried_value old columns c)) (row_columns new)) (subst T (sym (is_sorted-made (carried_value old columns) (row_columns new)))
     (is_sorted-filter name_cmp (λ c. not (is_own_column c.0)) (entries new.columns) (entries_sorted new.columns)))

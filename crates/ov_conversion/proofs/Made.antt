@@ -4,13 +4,14 @@ use Rattle.std.specs.FinMap.{empty, get, insert, entries, keys, find, from_entri
 use Rattle.std.specs.List.{filter_map, cons_option, list_any}
 use Rattle.std.specs.Ordering.{eq_by_cmp}
 use Rattle.ov_specs.specs.conversion.Carried.{carried_row, carried_if_kept, carried}
+use Rattle.ov_specs.specs.operations.GivenRow.{with_values}
 use Rattle.ov_specs.specs.rows.Database.{Row, Database}
 use Rattle.ov_specs.specs.rows.Lines.{LineKey, line_cmp}
 use Rattle.ov_specs.specs.schema.SchemaTypes.{Table, Schema}
 use Rattle.ov_specs.specs.values.Uuid.{Uuid}
 use Rattle.ov_specs.proofs.laws.FoundRows.{EachRow}
 use Rattle.ov_specs.proofs.laws.LineKeys.{key_total, key_exact, tied_same}
-use Rattle.ov_conversion.specs.Making.{with_row, with_rows, keyed}
+use Rattle.ov_conversion.specs.Making.{with_row, keyed}
 use Rattle.ov_conversion.specs.Carrying.{carried_at, carried_of}
 use Rattle.ov_conversion.proofs.KeyedRows.{each_row}
 
@@ -58,12 +59,12 @@ module _ (made : LineKey → Option Row) where
           ap (λ o. cond c (or_rows (made q) o) o) (at ∙ ap (λ b. cond b (or_rows (made key) (get rows q)) (get rows q)) other)
 
   -- the rows that are made of the keys, put one after another
-  pub with_rows-made : (ks : List LineKey) (rows : Database) → with_rows (filter_map (keyed made) ks) rows ≡ with_made made ks rows
-  with_rows-made [] rows = refl
-  with_rows-made (key ∷ ks) rows = by (made key) (with_rows-made ks)
+  pub with_values-made : (ks : List LineKey) (rows : Database) → with_values (filter_map (keyed made) ks) rows ≡ with_made made ks rows
+  with_values-made [] rows = refl
+  with_values-made (key ∷ ks) rows = by (made key) (with_values-made ks)
     where
-      by : (o : Option Row) → ((others : Database) → with_rows (filter_map (keyed made) ks) others ≡ with_made made ks others)
-          → with_rows (cons_option (option_map (λ row. (key, row)) o) (filter_map (keyed made) ks)) rows ≡ with_made made ks (with_row key o rows)
+      by : (o : Option Row) → ((others : Database) → with_values (filter_map (keyed made) ks) others ≡ with_made made ks others)
+          → with_values (cons_option (option_map (λ row. (key, row)) o) (filter_map (keyed made) ks)) rows ≡ with_made made ks (with_row key o rows)
       by None later = later rows
       by (Some row) later = later (insert rows key row)
 

@@ -5,6 +5,7 @@ use Rattle.std.specs.FinMap.{get, insert, entries, keys, find, is_sorted, entrie
 use Rattle.std.specs.List.{list_any, filter_map}
 use Rattle.std.specs.Ordering.{eq_by_cmp}
 use Rattle.ov_specs.specs.integrity.Committed.{dangles, pruned_datum, pruned_value, pruned_columns, pruned_row, pruned}
+use Rattle.ov_specs.specs.operations.GivenRow.{with_values}
 use Rattle.ov_specs.specs.rows.Database.{Columns, Row, Database}
 use Rattle.ov_specs.specs.rows.Lines.{LineKey, line_cmp}
 use Rattle.ov_specs.specs.rows.Version.{row_now}
@@ -17,9 +18,9 @@ use Rattle.ov_specs.proofs.laws.LineKeys.{key_total, key_exact}
 use Rattle.ov_specs.proofs.laws.Names.{name_cmp_total, name_exact, same_name, same_name-is, same_name-itself, find-first_not_later, sorted_rest}
 use Rattle.ov_specs.proofs.laws.Pruning.{get-pruned_columns, get-pruned}
 use Rattle.ov_specs.proofs.laws.PrunedValues.{is_sorted-filter}
-use Rattle.ov_conversion.specs.Making.{with_rows, keyed}
+use Rattle.ov_conversion.specs.Making.{keyed}
 use Rattle.ov_conversion.specs.Pruning.{repaired, repaired_at}
-use Rattle.ov_conversion.proofs.Made.{or_rows, get-with_made, with_rows-made, is_among-keys}
+use Rattle.ov_conversion.proofs.Made.{or_rows, get-with_made, with_values-made, is_among-keys}
 
 -- ---- pairs that remain of a map make a map again
 
@@ -118,9 +119,9 @@ module _ (rows : Database) where
 
 module _ (schema : Schema) (before : Database) (version : Uuid) (rows : Database) where
   -- the rows with those that lost references in their places are the pruned ones
-  pub pruned-made : (ks : List LineKey) → ks ≡ keys rows → with_rows (filter_map (keyed (repaired_at schema before version rows)) ks) rows ≡ pruned schema before version rows
+  pub pruned-made : (ks : List LineKey) → ks ≡ keys rows → with_values (filter_map (keyed (repaired_at schema before version rows)) ks) rows ≡ pruned schema before version rows
   pruned-made ks are =
-      with_rows-made (repaired_at schema before version rows) ks rows
+      with_values-made (repaired_at schema before version rows) ks rows
       ∙ same_map key_total key_exact _ _ (λ q.
       get-with_made (repaired_at schema before version rows) ks rows q ∙ ap (λ b. cond b (or_rows (repaired_at schema before version rows q) (get rows q)) (get rows q)) (ap (λ k. list_any (eq_by_cmp line_cmp q) k) are ∙ is_among-keys rows q)
       ∙ by q (get rows q) ∙ sym (get-pruned schema before version rows q))

@@ -1,5 +1,5 @@
 -- Rows that are asked or made by their keys, one after another; for private clauses.
-use Rattle.std.specs.Prelude.{List, [], ◌∷◌, Option, Some, None, option_map, Bool}
+use Rattle.std.specs.Prelude.{Option, Some, None, option_map, Bool}
 use Rattle.std.specs.FinMap.{get, insert}
 use Rattle.ov_specs.specs.rows.Database.{Row, Database}
 use Rattle.ov_specs.specs.rows.Lines.{LineKey}
@@ -13,11 +13,6 @@ at_key test rows key = is_some_and (λ row. test (key, row)) (get rows key)
 abbrev pub with_row : LineKey → Option Row → Database → Database
 with_row key None rows = rows
 with_row key (Some row) rows = insert rows key row
-
--- with these rows at their keys
-abbrev pub with_rows : List (LineKey × Row) → Database → Database
-with_rows [] rows = rows
-with_rows (r ∷ rs) rows = with_rows rs (insert rows r.0 r.1)
 
 -- what is made of a key, under the key
 abbrev pub keyed : (LineKey → Option Row) → LineKey → Option (LineKey × Row)

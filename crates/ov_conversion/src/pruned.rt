@@ -3,11 +3,12 @@ ghost use Rattle.std.specs.FinMap.{keys};
 ghost use Rattle.std.specs.List.{filter_map};
 ghost use Rattle.std.specs.Option.{option_to_list};
 ghost use Rattle.ov_atoms.specs.Views.{atom_view, atoms_view, pair_view, pairs_view};
-ghost use Rattle.ov_conversion.specs.Making.{keyed, with_rows};
+ghost use Rattle.ov_conversion.specs.Making.{keyed};
 ghost use Rattle.ov_conversion.specs.Pruning.{repaired, repaired_at};
 ghost use Rattle.ov_specs.specs.integrity.Committed as committed;
 ghost use Rattle.ov_specs.specs.integrity.Committed.{is_dangling};
 ghost use Rattle.ov_specs.specs.integrity.References.{target_of};
+ghost use Rattle.ov_specs.specs.operations.GivenRow.{with_values};
 ghost use Rattle.ov_specs.specs.schema.Schema.{is_some_and};
 
 use crate::carried::row_now;
@@ -227,7 +228,7 @@ fn all_repaired(
 
 /// Puts these rows in place of those of their keys.
 fn put_all(alloc: Global, rows: &mut Rows, found: Vec<(RowKey, Row)>) -> Result<(), AllocError>
-    ensures { OnOk result (rows.new ≡ with_rows found.items rows.old) }
+    ensures { OnOk result (rows.new ≡ with_values found.items rows.old) }
 {
     for (key, row) in found {
         rows.insert(alloc, &key, row)?;

@@ -6,9 +6,9 @@ use Rattle.std.specs.FinMap.{empty, find, is_sorted, get, insert, entries, entri
 use Rattle.std.specs.FinMap.Entries.{below_all}
 use Rattle.ov_specs.specs.rows.Database.{Columns, Row}
 use Rattle.ov_specs.specs.rows.Held as stored
-use Rattle.ov_specs.specs.rows.Held.{Body, is_stored_as, row_held, row_if_stored, row_of_body, value_held}
+use Rattle.ov_specs.specs.rows.Held.{Body, columns_stored, is_stored_as, row_held, row_if_stored, row_of_body, value_held}
 use Rattle.ov_specs.specs.rows.Lines.{LineKey}
-use Rattle.ov_specs.specs.rows.RowNames.{is_own_column, row_columns}
+use Rattle.ov_specs.specs.rows.RowNames.{is_own_column}
 use Rattle.ov_specs.specs.schema.SchemaTypes.{Column, Table, Schema, name_cmp}
 use Rattle.ov_specs.specs.values.Results.{all_results, in_front}
 use Rattle.ov_specs.specs.values.Uuid.{Uuid}
@@ -18,7 +18,7 @@ use Rattle.ov_specs.proofs.laws.Truths.{both_hold, left_holds, right_holds}
 use Rattle.ov_db.specs.declared.fault.OpenFault.{OpenFault}
 use Rattle.ov_db.specs.declared.fault.OpenFault.TheVariants.{SchemaDiffers, BadBody, Broken, TypeChanged, NotConvertible, Keeping}
 use Rattle.ov_db.specs.Loading.{IsNotLoaded, IsLoaded}
-use Rattle.ov_db.specs.Stored.{RowBody, columns_stored, named, row_stored}
+use Rattle.ov_db.specs.Stored.{RowBody, named, row_stored}
 
 -- ---- one value
 
@@ -146,16 +146,9 @@ module _ (body : Body) where
 
 -- ---- the row
 
-pub row_of_columns : (table : Table) (version : Uuid) (body : Body) → row_of_body table version body ≡ option_and_then (row_if_stored version body) (columns_stored body table)
-row_of_columns table version body = by (all_results (value_held body) (row_columns table))
-  where
-    by : (o : Option Values) → option_and_then (λ values. row_if_stored version body (from_entries values)) o ≡ option_and_then (row_if_stored version body) (option_map from_entries o)
-    by None = refl
-    by (Some vs) = refl
-
 -- without the columns there is no row
 pub no_row : (table : Table) (version : Uuid) (body : Body) (fault : OpenFault) → IsNotLoaded (columns_stored body table) fault → IsNotLoaded (row_of_body table version body) fault
-no_row table version body BadBody is = row_of_columns table version body ∙ ap (option_and_then (row_if_stored version body)) is
+no_row table version body BadBody is = ap (option_and_then (row_if_stored version body)) is
 no_row table version body (Keeping fault) is = is
 no_row table version body SchemaDiffers is = is
 no_row table version body Broken is = is
@@ -166,7 +159,7 @@ no_row table version body NotConvertible is = is
 pub row_if : (table : Table) (version : Uuid) (body : Body) (columns : Columns) (b : Bool) → columns_stored body table ≡ Some columns → is_stored_as columns body ≡ b
     → row_of_body table version body ≡ cond b (Some (record { version = version; columns = columns })) None
 row_if table version body columns b stored is =
-    row_of_columns table version body ∙ ap (option_and_then (row_if_stored version body)) stored ∙ ap (λ t. cond t (Some (record { version = version; columns = columns })) None) is
+    ap (option_and_then (row_if_stored version body)) stored ∙ ap (λ t. cond t (Some (record { version = version; columns = columns })) None) is
 
 -- ---- the row under a key
 

@@ -16,14 +16,14 @@ use Rattle.ov_specs.specs.rows.RowNames.{row_names, without_own}
 use Rattle.ov_specs.specs.rows.Suits.{is_value_for, suits_column, SuitsTable}
 use Rattle.ov_specs.specs.schema.SchemaTypes.{Column, Table, name_cmp}
 use Rattle.ov_specs.specs.values.Uuid.{Uuid}
-use Rattle.ov_specs.specs.values.Value.{Datum}
+use Rattle.ov_specs.specs.values.Value.{Datum, marked}
 use Rattle.ov_specs.specs.values.Writing.{tree}
 use Rattle.ov_specs.specs.wire.Message.{tree_of}
 use Rattle.ov_specs.proofs.laws.Bodies.{get-body}
 use Rattle.ov_specs.proofs.laws.Names.{same_name, same_name-is}
 use Rattle.ov_specs.proofs.laws.Truths.{both_hold, left_holds, right_holds}
 use Rattle.ov_rows.specs.Body.{body_of, AreOfKinds}
-use Rattle.ov_rows.specs.Named.{alone, DoAscend}
+use Rattle.ov_rows.specs.Named.{DoAscend}
 use Rattle.ov_rows.proofs.Names.{zip-entries}
 use Rattle.ov_db.specs.Guessed.{are_values_for}
 use Rattle.ov_db.specs.Stored.{AreCellsRead}
@@ -32,12 +32,12 @@ use Rattle.ov_db.proofs.Same.{text-same}
 
 -- ---- the names of a table's rows ascend
 
-below : (name : List ℕ) (cs : List (List ℕ × Column)) → T (below_all name_cmp name cs) → T (below_all name_cmp name (map alone (without_own (map (λ c. c.0) cs))))
+below : (name : List ℕ) (cs : List (List ℕ × Column)) → T (below_all name_cmp name cs) → T (below_all name_cmp name (map marked (without_own (map (λ c. c.0) cs))))
 below name [] h = tt
 below name (c ∷ cs) h = by (not (is_own_column c.0)) (below name cs (right_holds _ _ h))
   where
-    by : (b : Bool) → T (below_all name_cmp name (map alone (without_own (map (λ c. c.0) cs))))
-        → T (below_all name_cmp name (map alone (cond b (c.0 ∷ without_own (map (λ c. c.0) cs)) (without_own (map (λ c. c.0) cs)))))
+    by : (b : Bool) → T (below_all name_cmp name (map marked (without_own (map (λ c. c.0) cs))))
+        → T (below_all name_cmp name (map marked (cond b (c.0 ∷ without_own (map (λ c. c.0) cs)) (without_own (map (λ c. c.0) cs)))))
     by true rest = both_hold _ _ (left_holds _ _ h) rest
     by false rest = rest
 

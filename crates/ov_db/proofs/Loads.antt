@@ -1,17 +1,15 @@
 -- The rows that are stored, taken one by one, are the database that all of them stand for.
-use Rattle.std.proofs.Common.{◌≡◌, ℕ, List, [], ◌∷◌, map, Bool, true, false, cond, T, Option, Some, None, option_map, option_and_then, is_some, refl, sym, ap, subst, ◌∙◌}
+use Rattle.std.proofs.Common.{◌≡◌, List, [], ◌∷◌, map, Bool, true, false, cond, T, Option, Some, None, option_map, option_and_then, is_some, refl, sym, ap, subst, ◌∙◌}
 use Rattle.std.specs.FinMap.{contains_key, empty, entries, entries_sorted, find, from_entries, get, get-empty, get-entries, get-from_entries, get-insert, insert, is_sorted, same_map}
 use Rattle.std.specs.FinMap.Entries.{below_all}
 use Rattle.std.proofs.lemmas.Option.{same_Some}
 use Rattle.ov_specs.specs.rows.Cells.{CellLine, CellLines, StoredLines, Whole, InCells, cell_line_of, cell_lines_of}
 use Rattle.ov_specs.specs.rows.Database.{Columns, Database, Row}
 use Rattle.ov_specs.specs.rows.Held as stored
-use Rattle.ov_specs.specs.rows.Held.{OneText, OfCells, held, is_stored_as, lines_held, row_held, row_of_body, value_held}
+use Rattle.ov_specs.specs.rows.Held.{OneText, OfCells, columns_stored, held, is_stored_as, lines_held, row_held, row_of_body}
 use Rattle.ov_specs.specs.rows.Lines.{LineBody, LineKey, line_cmp}
-use Rattle.ov_specs.specs.rows.RowNames.{row_columns}
 use Rattle.ov_specs.specs.schema.SchemaTypes.{Schema, Table}
 use Rattle.ov_specs.specs.values.Results.{all_results, in_front}
-use Rattle.ov_specs.specs.values.Value.{Datum}
 use Rattle.ov_specs.proofs.laws.LineKeys.{key_exact, key_total, same_tied, tied_same}
 use Rattle.ov_specs.proofs.laws.Truths.{both_hold, left_holds, right_holds, not_tied}
 use Rattle.ov_keeper.specs.declared.cell_line.CellLine as code
@@ -322,13 +320,13 @@ cells_of_stored schema key line row h = by_table (get schema.tables key.0) (sym 
     by_test columns true is k = ap cell_line_of (sym (same_Some (record { version = line.0; columns = columns }) row k)) ∙ ap (λ cells. (line.0, cells)) (stored_cells columns line.1 is)
     by_test columns false is k = cc
 
-    by_values : (o : Option (List (List ℕ × Datum))) → option_and_then (λ values. stored.row_if_stored line.0 (OfCells line.1) (from_entries values)) o ≡ Some row → cell_line_of row ≡ line
-    by_values None k = cc
-    by_values (Some values) k = by_test (from_entries values) (is_stored_as (from_entries values) (OfCells line.1)) refl k
+    by_columns : (o : Option Columns) → option_and_then (stored.row_if_stored line.0 (OfCells line.1)) o ≡ Some row → cell_line_of row ≡ line
+    by_columns None k = cc
+    by_columns (Some columns) k = by_test columns (is_stored_as columns (OfCells line.1)) refl k
 
     by_table : (o : Option Table) → option_and_then (λ table. row_of_body table line.0 (OfCells line.1)) o ≡ Some row → cell_line_of row ≡ line
     by_table None k = cc
-    by_table (Some table) k = by_values (all_results (value_held (OfCells line.1)) (row_columns table)) k
+    by_table (Some table) k = by_columns (columns_stored (OfCells line.1) table) k
 
 -- rows in cells are the database that they stand for, as it is stored
 pub cells_held : (schema : Schema) (lines : CellLines) (database : Database) → held schema (InCells lines) ≡ Some database → lines ≡ cell_lines_of database

@@ -7,7 +7,7 @@ use Rattle.ov_specs.specs.rows.RowNames.{is_own_column}
 use Rattle.ov_specs.specs.values.Uuid.{Uuid, no_names}
 use Rattle.ov_specs.specs.rows.Cells.{cell_body, cells_of}
 use Rattle.ov_specs.specs.rows.Database.{Columns, Row}
-use Rattle.ov_specs.specs.rows.Held.{Body, OfCells, if_fits, is_stored_as, row_if_stored, row_of_body, tree_stored, value_held}
+use Rattle.ov_specs.specs.rows.Held.{Body, OfCells, columns_stored, if_fits, is_stored_as, row_if_stored, row_of_body, tree_stored, value_held}
 use Rattle.ov_specs.specs.rows.Lines.{LineKey}
 use Rattle.ov_specs.specs.rows.Suits.{is_value_for, column_of_row, suits_column, SuitsTable, SuitsRow}
 use Rattle.ov_specs.specs.schema.Fitting.{fits}
@@ -19,8 +19,8 @@ use Rattle.ov_specs.proofs.laws.Names.{name_cmp_total, name_exact, same_name, sa
 use Rattle.ov_specs.proofs.laws.ReadingBack.{reads-tree}
 use Rattle.ov_rows.specs.Body.{AreOfKinds}
 use Rattle.ov_specs.specs.wire.Message.{tree_of}
-use Rattle.ov_db.specs.Stored.{AreCellsRead, columns_stored, row_cells, row_stored}
-use Rattle.ov_db.proofs.BodyRows.{added_by, columns_added, row_of_columns, row_stored-is}
+use Rattle.ov_db.specs.Stored.{AreCellsRead, row_cells, row_stored}
+use Rattle.ov_db.proofs.BodyRows.{added_by, columns_added, row_stored-is}
 use Rattle.ov_db.proofs.CellMaps.{are_stored, get-cells_of}
 
 -- ---- one value
@@ -143,7 +143,7 @@ values_of_kinds table columns suits name datum is = by (column_of_row table name
 pub row_is_stored : (table : Table) (version : Uuid) (columns : Columns) (body : Body) → SuitsTable table columns → ((name : List ℕ) (datum : Datum) → get columns name ≡ Some datum → tree_stored body name ≡ Some (tree datum))
     → is_stored_as columns body ≡ true → row_of_body table version body ≡ Some (record { version = version; columns = columns })
 row_is_stored table version columns body suits holds exact =
-    row_of_columns table version body ∙ ap (option_and_then (row_if_stored version body)) (columns_are_stored table columns suits body holds) ∙ ap (λ b. cond b (Some row) None) exact
+    ap (option_and_then (row_if_stored version body)) (columns_are_stored table columns suits body holds) ∙ ap (λ b. cond b (Some row) None) exact
   where
     row : Row
     row = record { version = version; columns = columns }

@@ -7,7 +7,7 @@ use Rattle.std.specs.FinMap.{empty, get, insert, entries, contains_key}
 use Rattle.serde_json.specs.Data.{Data}
 use Rattle.ov_specs.specs.rows.RowNames.{is_own_column}
 use Rattle.ov_specs.specs.rows.Database.{Columns, Row}
-use Rattle.ov_specs.specs.rows.Held.{Body, if_fits, is_stored_as, row_if_stored, row_of_body, tree_stored, value_held}
+use Rattle.ov_specs.specs.rows.Held.{Body, columns_stored, if_fits, is_stored_as, row_if_stored, row_of_body, tree_stored, value_held}
 use Rattle.ov_specs.specs.rows.Lines.{LineKey}
 use Rattle.ov_specs.specs.rows.Suits.{is_value_for, SuitsTable, SuitsRow}
 use Rattle.ov_specs.specs.schema.Fitting.{fits}
@@ -18,8 +18,8 @@ use Rattle.ov_specs.specs.values.Value.{Datum, is_of}
 use Rattle.ov_specs.proofs.laws.Names.{each_entry}
 use Rattle.ov_specs.proofs.laws.OfKinds.{reads_is_of}
 use Rattle.ov_specs.proofs.laws.SuitingColumns.{no_uuids, IsGiven, column_is, SuitsSoFar, none_suits, one_more_suits, Completes, passed, added, StandIn, complete_suits}
-use Rattle.ov_db.specs.Stored.{RowBody, columns_stored, named, row_stored}
-use Rattle.ov_db.proofs.BodyRows.{added_by, columns_added, row_of_columns, row_stored-is}
+use Rattle.ov_db.specs.Stored.{RowBody, named, row_stored}
+use Rattle.ov_db.proofs.BodyRows.{added_by, columns_added, row_stored-is}
 
 -- ---- one value
 
@@ -77,7 +77,7 @@ abbrev IsOfTable : Table → RowBody → Row → Type 0
 IsOfTable table stored row = (row.version ≡ stored.0) × SuitsTable table row.columns
 
 row_of_body_suits : (table : Table) (stored : RowBody) (row : Row) → row_of_body table stored.0 stored.1 ≡ Some row → IsOfTable table stored row
-row_of_body_suits table stored row h = by_columns (columns_stored stored.1 table) refl (sym (row_of_columns table stored.0 stored.1) ∙ h)
+row_of_body_suits table stored row h = by_columns (columns_stored stored.1 table) refl h
   where
     by_test : (columns : Columns) (b : Bool) → SuitsTable table columns → cond b (Some (record { version = stored.0; columns = columns })) None ≡ Some row → IsOfTable table stored row
     by_test columns true suits k =

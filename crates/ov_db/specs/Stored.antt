@@ -1,14 +1,12 @@
 -- The row that is stored under a key, and which rows read back from their cells.
 use Rattle.std.specs.Prelude.{◌≡◌, ℕ, List, [], ◌∷◌, true, Option, Some, None, option_map}
-use Rattle.std.specs.FinMap.{get, from_entries}
+use Rattle.std.specs.FinMap.{get}
 use Rattle.ov_specs.specs.rows.Cells.{cell_body, cells_of}
 use Rattle.ov_specs.specs.rows.Database.{Columns, Row, Database}
-use Rattle.ov_specs.specs.rows.Held.{Body, OfCells, row_held, value_held}
+use Rattle.ov_specs.specs.rows.Held.{Body, OfCells, row_held}
 use Rattle.ov_specs.specs.rows.Lines.{LineKey}
-use Rattle.ov_specs.specs.rows.RowNames.{row_columns}
 use Rattle.ov_specs.specs.rows.Suits.{Suits}
-use Rattle.ov_specs.specs.schema.SchemaTypes.{Table, Schema}
-use Rattle.ov_specs.specs.values.Results.{all_results}
+use Rattle.ov_specs.specs.schema.SchemaTypes.{Schema}
 use Rattle.ov_specs.specs.values.Uuid.{Uuid}
 use Rattle.ov_specs.specs.values.Value.{Datum, Kinds, is_of}
 use Rattle.ov_specs.specs.values.Writing.{tree}
@@ -60,7 +58,3 @@ ArePutRead (change ∷ changes) = IsPutRead change.1 × ArePutRead changes
 -- the value with the name of its column
 abbrev pub named : List ℕ → Datum → List ℕ × Datum
 named name datum = (name, datum)
-
--- the columns of a row of the table with the values that are stored for them, if each has one; more may be stored
-abbrev pub columns_stored : Body → Table → Option Columns
-columns_stored body table = option_map from_entries (all_results (value_held body) (row_columns table))

@@ -1,7 +1,7 @@
 ghost use Rattle.std.specs.Prelude.{◌≡◌, IfOk, IfErr, Some, option_and_then, option_map};
 ghost use Rattle.serde_json.specs.Find as find;
 ghost use Rattle.serde_json.specs.View.{view};
-ghost use Rattle.ov_specs.specs.rows.Held.{OneText, if_fits, row_of_body};
+ghost use Rattle.ov_specs.specs.rows.Held.{OneText, columns_stored, if_fits, row_of_body};
 ghost use Rattle.ov_specs.specs.rows.Suits.{is_value_for};
 ghost use Rattle.ov_specs.specs.schema.SchemaTypes.{kinds_of};
 ghost use Rattle.ov_specs.specs.values.Reading.{reads};
@@ -10,7 +10,7 @@ ghost use Rattle.ov_specs.specs.wire.Message.{tree_of};
 ghost use Rattle.ov_keeper.specs.declared.fault.KeepFault.TheVariants.{Memory};
 ghost use Rattle.ov_db.specs.Loading.{IsLoaded, whole_entry};
 ghost use Rattle.ov_db.specs.Guessed.{are_values_for};
-ghost use Rattle.ov_db.specs.Stored.{columns_stored, row_stored};
+ghost use Rattle.ov_db.specs.Stored.{row_stored};
 ghost use Rattle.ov_db.specs.declared.fault.OpenFault.TheVariants.{Keeping};
 
 use crate::fault::OpenFault;

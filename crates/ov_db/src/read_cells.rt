@@ -2,10 +2,10 @@ ghost use Rattle.std.specs.Prelude.{◌≡◌, IfOk, Some};
 ghost use Rattle.std.specs.FinMap.{keys};
 ghost use Rattle.ov_rows.specs.Named.{DoAscend};
 ghost use Rattle.ov_specs.specs.rows.Cells.{cells_of};
-ghost use Rattle.ov_specs.specs.rows.Held.{OfCells, row_of_body, value_held};
+ghost use Rattle.ov_specs.specs.rows.Held.{OfCells, columns_stored, row_of_body, value_held};
 ghost use Rattle.ov_keeper.specs.Views.{cells_view};
 ghost use Rattle.ov_db.specs.Loading.{IsLoaded, cells_entry};
-ghost use Rattle.ov_db.specs.Stored.{AreCellsRead, columns_stored, named, row_stored};
+ghost use Rattle.ov_db.specs.Stored.{AreCellsRead, named, row_stored};
 
 use crate::cells::{are_cells_of, are_same, body_at, cells_of};
 use crate::fault::OpenFault;

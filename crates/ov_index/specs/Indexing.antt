@@ -12,6 +12,7 @@ use Rattle.ov_specs.specs.rows.Lines.{LineKey}
 use Rattle.ov_specs.specs.schema.Schema.{is_some_and}
 use Rattle.ov_specs.specs.schema.SchemaTypes.{Schema}
 use Rattle.ov_specs.specs.values.Uuid.{Uuid}
+use Rattle.ov_specs.specs.values.Value.{marked}
 
 -- a set of identifiers
 abbrev pub IdSet : Type 0
@@ -88,10 +89,6 @@ without_entries [] indexes = indexes
 without_entries (entry ∷ entries) indexes = without_entries entries (without_entry entry indexes)
 
 -- ---- how models store them
-
--- an identifier as an entry of a set
-abbrev pub marked : Uuid → Uuid × Unit {0}
-marked id = (id, tt)
 
 -- the set of an ascending list
 abbrev pub set_of_ids : List Uuid → IdSet

@@ -16,7 +16,8 @@ impl Model for IdSet {
     ghost use Rattle.std.specs.FinMap.{is_sorted};
     ghost use Rattle.ov_rows.specs.Nested.{id_cmp};
     ghost use Rattle.ov_index.specs.Indexing as indexing;
-    ghost use Rattle.ov_index.specs.Indexing.{id_set_code, marked, set_of_ids};
+    ghost use Rattle.ov_index.specs.Indexing.{id_set_code, set_of_ids};
+    ghost use Rattle.ov_specs.specs.values.Value.{marked};
 
     ghost Value = { indexing.IdSet };
 

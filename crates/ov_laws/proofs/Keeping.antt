@@ -9,7 +9,7 @@ use Rattle.std.proofs.lemmas.Option.{same_Some}
 use Rattle.serde_json.specs.Data.{Data, Items}
 use Rattle.ov_specs.specs.locks.Queues.{owns, freed}
 use Rattle.ov_specs.specs.machine.History.{run}
-use Rattle.ov_specs.specs.machine.Machine.{State, Entry, Attempt, Choice, Event, Open, Take, Close, Tick, Outcome, Committed, Failed, Outstanding, locks, Listed, listed, Sent, Stepped, Tried, Passed, passed, passes_after, step, happens, works, takes_and_settles, tries_again, is_kept, pass, settle_within, settle, waits_after, still_waiting, closed, is_open, is_request, is_without_choice, none_drawn, with_next_session, ends, arrived, Work, Transact, work_of, results_to, results_of, updates_sent}
+use Rattle.ov_specs.specs.machine.Machine.{State, Entry, Attempt, Choice, Event, Open, Take, Close, Tick, Outcome, Committed, Failed, Outstanding, locks, Listed, listed, Sent, Stepped, Tried, Passed, passed, passes_after, step, happens, works, takes_and_settles, tries_again, is_kept, pass, settle_within, settle, waits_after, still_waiting, closed, is_open, is_request, is_without_choice, none_drawn, with_next_session, ends, arrived, Work, Transact, work_of, results_to, results_of, updates_sent, tried_in}
 use Rattle.ov_specs.specs.operations.Errors.{InputOutput}
 use Rattle.ov_specs.specs.operations.Transaction.{TransactionOutcome, Completes, transaction, has_error, failed_results}
 use Rattle.ov_specs.specs.rows.Database.{Database, same_database}
@@ -19,7 +19,7 @@ use Rattle.ov_specs.proofs.laws.Histories.{Leads, leads_more, run_parts, run_non
 use Rattle.ov_specs.proofs.laws.Tries.{left_by, sent_by, emptied, pass_first, settle_first, takes_first, tick_first}
 use Rattle.ov_specs.proofs.laws.Works.{sending, keeping, sealing, blocked, canceling, watching, when_is, work_has}
 use Rattle.ov_laws.specs.Databases.{if_suits, kept_by_passes, kept_by_settling, kept_by_message, kept_by_event, at_moment_of, kept_by, commits_in}
-use Rattle.ov_laws.specs.Making.{Arrival, arrival_of, tried_in, is_transaction, takes_another}
+use Rattle.ov_laws.specs.Making.{Arrival, arrival_of, is_transaction, takes_another}
 use Rattle.ov_laws.specs.Tries.{Trial, SettlingTries, tries_next, tries_on, tries_anew, EventTries, tries_message, tries_after, tries_waiting}
 use Rattle.ov_laws.proofs.Attempts.{OfAttempt, try_is, arrival_is, and_item-error}
 use Rattle.ov_laws.proofs.Counting.{commits, is_commit, one_if, commits-append, event-commits}

@@ -57,7 +57,10 @@ databases s history = s.database ∷ kept_by s history
 abbrev pub IsLastOf : Database → List Database → Type 0
 IsLastOf last all = (earlier : List Database) × (all ≡ earlier ++ last ∷ [])
 
+-- the attempts of these whose changes the store kept
+abbrev pub commits_of : List Attempt → List Attempt
+commits_of attempts = filter (λ a. is_kept (Some a.outcome)) attempts
+
 -- the attempts of the entries whose changes the store kept
 abbrev pub commits_in : List Entry → List Attempt
-commits_in history =
-    filter (λ a. is_kept (Some a.outcome)) (flat_map (λ e. e.choice.outcomes) history)
+commits_in history = commits_of (flat_map (λ e. e.choice.outcomes) history)

@@ -1,15 +1,13 @@
 -- Which attempts of a history make its databases, and which replies tell of them (RFC 7047, 4.1.3).
-use Rattle.std.specs.Prelude.{◌≡◌, ◌⊎◌, ℕ, ◌+◌, ◌-◌, List, [], ◌∷◌, ◌++◌, length, filter, Bool, true, false, not, Some}
+use Rattle.std.specs.Prelude.{◌≡◌, ◌⊎◌, ℕ, ◌+◌, List, [], ◌∷◌, ◌++◌, length, Bool, true, false, not, Some}
 use Rattle.serde_json.specs.Data.{Data, Items}
-use Rattle.ov_specs.specs.locks.Queues.{owns}
 use Rattle.ov_specs.specs.machine.History.{run}
-use Rattle.ov_specs.specs.machine.Machine.{State, Event, Open, Take, Close, Tick, Entry, Attempt, Outcome, Outstanding, Stepped, Work, Answers, Transact, Cancels, Locks, Watches, work_of, is_kept}
-use Rattle.ov_specs.specs.operations.Transaction.{TransactionOutcome, Completes, transaction, has_error}
+use Rattle.ov_specs.specs.machine.Machine.{State, Event, Open, Take, Close, Tick, Entry, Attempt, Outcome, Outstanding, Stepped, Work, Answers, Transact, Cancels, Locks, Watches, work_of, tried_in}
+use Rattle.ov_specs.specs.operations.Transaction.{Completes, has_error}
 use Rattle.ov_specs.specs.rows.Database.{Database, same_database}
-use Rattle.ov_specs.specs.schema.SchemaTypes.{Schema}
 use Rattle.ov_specs.specs.values.Uuid.{Uuid}
 use Rattle.ov_specs.specs.wire.Message.{Message}
-use Rattle.ov_laws.specs.Databases.{at_moment_of, commits_in}
+use Rattle.ov_laws.specs.Databases.{at_moment_of, commits_of, commits_in}
 use Rattle.ov_laws.specs.Tries.{Trial, EventTries}
 
 -- A transaction as it arrives: the session that asks for it, the id of its reply, the identifiers drawn for it, its operations,
@@ -50,16 +48,6 @@ pub record TakesTransaction
 -- One of these entries took the transaction.
 abbrev pub IsTaken : State → List Entry → Outstanding → Type 0
 IsTaken first history o = TakesTransaction first history (arrival_of o)
-
--- What comes of the transaction in this state of the machine, at its age and with the locks that its session owns there, if the
--- schema is this one (RFC 7047, 4.1.3, 5.2.6).
-abbrev pub tried_in : Schema → State → Outstanding → TransactionOutcome
-tried_in schema s o = transaction schema s.database (owns s.queues o.session)
-    o.draws (s.moment - o.arrival) o.operations
-
--- the attempts of these whose changes the store kept
-abbrev pub commits_of : List Attempt → List Attempt
-commits_of attempts = filter (λ a. is_kept (Some a.outcome)) attempts
 
 -- An attempt of the history makes `after` of `before`, after n attempts that were kept, and the store answers it with this
 -- outcome.

@@ -11,7 +11,8 @@ use Rattle.std.specs.Ordering.{eq_by_cmp, match_ordering, is_eq}
 use Rattle.ov_specs.specs.rows.Lines.{LineKey, line_cmp}
 use Rattle.ov_specs.proofs.laws.LineKeys.{key_exact, key_total, tied_same}
 use Rattle.ov_specs.proofs.laws.Truths.{both_hold}
-use Rattle.ov_refs.specs.Holding.{KeySet, marked, set_of_keys}
+use Rattle.ov_refs.specs.Holding.{KeySet, set_of_keys}
+use Rattle.ov_specs.specs.values.Value.{marked}
 use Rattle.ov_refs.specs.StoredKeys.{keys_in}
 use Rattle.ov_refs.specs.declared.key_set.Keys.{Keys}
 use Rattle.ov_rows.proofs.Maps.{from_sorted-nil}
@@ -75,7 +76,7 @@ module _ (ks ks' : List LineKey) (k : LineKey) (h : T (is_sorted line_cmp (map m
   -- a key that is put into the list
   pub set_of-insert : ks' ≡ insert_key line_cmp ks k → set_of_keys ks' ≡ insert (set_of_keys ks) k tt
   set_of-insert is = same_entries_map _ _
-      (entries-from_sorted line_cmp (map marked ks') h' ∙ ap (map marked) is ∙ sym (put-marked k ks)
+      (entries-from_sorted line_cmp (map marked ks') h' ∙ ap (λ (list : List LineKey). map marked list) is ∙ sym (put-marked k ks)
       ∙ sym (entries-insert key_total (set_of_keys ks) k tt ∙ ap (put line_cmp k tt) (entries-from_sorted line_cmp (map marked ks) h)))
 
   -- a key that is taken out of the list

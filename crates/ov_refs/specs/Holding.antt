@@ -7,15 +7,12 @@ use Rattle.std.specs.FinMap.{FinMap, empty, get, contains_key, insert, remove, l
 use Rattle.std.specs.declared.cmp.Ordering.{Ordering}
 use Rattle.ov_specs.specs.rows.Lines.{LineKey, line_cmp}
 use Rattle.ov_specs.specs.schema.Schema.{is_some_and}
+use Rattle.ov_specs.specs.values.Value.{marked}
 use Rattle.ov_rows.specs.Nested.{OfTable}
 
 -- a set of keys
 abbrev pub KeySet : Type 0
 KeySet = FinMap line_cmp (Unit {0})
-
--- a key as an entry of a set
-abbrev pub marked : LineKey → LineKey × Unit {0}
-marked key = (key, tt)
 
 -- the set of an ascending list
 abbrev pub set_of_keys : List LineKey → KeySet

@@ -31,7 +31,8 @@ impl Model for KeySet {
     ghost use Rattle.std.specs.FinMap.{is_sorted};
     ghost use Rattle.ov_specs.specs.rows.Lines.{line_cmp};
     ghost use Rattle.ov_refs.specs.Holding as holding;
-    ghost use Rattle.ov_refs.specs.Holding.{key_set_code, marked, set_of_keys};
+    ghost use Rattle.ov_refs.specs.Holding.{key_set_code, set_of_keys};
+    ghost use Rattle.ov_specs.specs.values.Value.{marked};
     ghost use Rattle.ov_refs.specs.StoredKeys.{keys_in};
 
     ghost Value = { holding.KeySet };

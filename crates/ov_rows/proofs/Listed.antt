@@ -4,14 +4,14 @@ use Rattle.std.proofs.lemmas.List.{length-map}
 use Rattle.std.specs.FinMap.{is_sorted, keys, values}
 use Rattle.std.specs.FinMap.Entries.{below_all}
 use Rattle.ov_specs.specs.schema.SchemaTypes.{name_cmp}
-use Rattle.ov_specs.specs.values.Value.{Datum}
+use Rattle.ov_specs.specs.values.Value.{Datum, marked}
 use Rattle.ov_specs.proofs.laws.Truths.{both_hold, left_holds, right_holds}
 use Rattle.ov_atoms.specs.Shape.{Shape}
-use Rattle.ov_rows.specs.Named.{alone, columns_at, DoAscend, IsListed}
+use Rattle.ov_rows.specs.Named.{columns_at, DoAscend, IsListed}
 use Rattle.ov_rows.proofs.Names.{entries-columns_at}
 
 -- names ascend whatever their values are
-below : (name : List ℕ) (names : List (List ℕ)) (vs : List Datum) → T (below_all name_cmp name (map alone names)) → T (below_all name_cmp name (zip names vs))
+below : (name : List ℕ) (names : List (List ℕ)) (vs : List Datum) → T (below_all name_cmp name (map marked names)) → T (below_all name_cmp name (zip names vs))
 below name [] vs h = tt
 below name (n ∷ names) [] h = tt
 below name (n ∷ names) (v ∷ vs) h = both_hold _ _ (left_holds _ _ h) (below name names vs (right_holds _ _ h))

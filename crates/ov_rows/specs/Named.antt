@@ -5,7 +5,7 @@ use Rattle.std.specs.declared.alloc.Global.{Global}
 use Rattle.std.specs.FinMap.{from_sorted, is_sorted}
 use Rattle.ov_specs.specs.rows.Database.{Columns}
 use Rattle.ov_specs.specs.schema.SchemaTypes.{name_cmp}
-use Rattle.ov_specs.specs.values.Value.{Datum}
+use Rattle.ov_specs.specs.values.Value.{Datum, marked}
 
 -- values in a list, each with the bytes of its column's name
 abbrev pub named : {X : Type 0} → List (String Global × X) → List (List ℕ × X)
@@ -24,13 +24,9 @@ abbrev pub place_from : ℕ → List ℕ → List (List ℕ) → Option ℕ
 place_from place name [] = None
 place_from place name (known ∷ names) = if bytes_eq name known then Some place else place_from (place + 1) name names
 
--- a name without a value
-abbrev pub alone : List ℕ → List ℕ × Unit {0}
-alone name = (name, tt)
-
 -- the names ascend, and none occurs twice
 abbrev pub DoAscend : List (List ℕ) → Type 0
-DoAscend names = T (is_sorted name_cmp (map alone names))
+DoAscend names = T (is_sorted name_cmp (map marked names))
 
 -- the names ascend, and there is a value for each
 abbrev pub IsListed : List (List ℕ) → List Datum → Type 0

@@ -6,6 +6,7 @@ use Rattle.serde_json.specs.Data.{Data}
 use Rattle.ov_specs.specs.values.Value.{Atom, AtomSet, atom_cmp, set_of, Datum, Atoms, Pairs, atoms_in}
 use Rattle.ov_specs.specs.values.Reading as reading
 use Rattle.ov_specs.specs.values.Reading.{Reading, set_reading, atoms_read}
+use Rattle.ov_specs.specs.values.Uuid.{no_names}
 use Rattle.ov_specs.specs.schema.SchemaShape.{TypeName, Kind, Real}
 use Rattle.ov_specs.specs.schema.Schema.{is_empty, is_set_of_one_or_more, reads_as_choices, choices_of, is_some_and}
 use Rattle.ov_specs.proofs.laws.Order.{atom_cmp_total}
@@ -44,7 +45,7 @@ is_set_of_one_or_more-keys (Some (a ∷ atoms)) =
 
 -- an `enum` reads as it should if its set has an atom
 pub reads_as_choices-keys : (of : TypeName) (d : Data) → reads_as_choices of d ≡ is_some_and (λ m. not (is_empty (keys m))) (choices_of of (Some d))
-reads_as_choices-keys (Kind of) d = is_set_of_one_or_more-keys (atoms_read (λ name. None) of d)
+reads_as_choices-keys (Kind of) d = is_set_of_one_or_more-keys (atoms_read no_names of d)
 reads_as_choices-keys Real d = refl
 
 pub no_keys-atoms_in : (d : Datum) → None ≡ atoms_in d → is_empty (keys (set_in d)) ≡ true

@@ -19,7 +19,7 @@ use Rattle.ov_specs.proofs.laws.Truths.{both_hold, left_holds, right_holds, equa
 use Rattle.ov_db.proofs.Same.{text-same}
 use Rattle.ov_db.specs.Changing.{Delta, applied, with_row_changes}
 use Rattle.ov_db.proofs.Places.{get-applied, or_before}
-use Rattle.ov_index.specs.Indexing.{marked}
+use Rattle.ov_specs.specs.values.Value.{marked}
 use Rattle.ov_rows.specs.Lending.{lent_row_of}
 use Rattle.ov_rows.specs.Nested.{TableRows, id_cmp, rows_in}
 use Rattle.ov_rows.specs.Resident.{database_of}

@@ -7,7 +7,7 @@ use Rattle.std.specs.Str.{bytes_eq}
 use Rattle.ov_db.specs.Changing.{Delta, with_row_changes}
 use Rattle.ov_index.specs.Changing.{are_any_alike}
 use Rattle.ov_index.specs.IndexKeys.{values_in}
-use Rattle.ov_index.specs.Indexing.{AreIndexesOf, marked}
+use Rattle.ov_index.specs.Indexing.{AreIndexesOf}
 use Rattle.ov_rows.specs.Nested.{id_cmp}
 use Rattle.ov_rows.specs.Resident.{database_of}
 use Rattle.ov_specs.specs.operations.Conditions.{Condition}
@@ -16,7 +16,7 @@ use Rattle.ov_specs.specs.rows.Database.{Database, Row}
 use Rattle.ov_specs.specs.rows.Lines.{LineKey}
 use Rattle.ov_specs.specs.schema.SchemaTypes.{Table}
 use Rattle.ov_specs.specs.values.Uuid.{Uuid}
-use Rattle.ov_specs.specs.values.Value.{Datum}
+use Rattle.ov_specs.specs.values.Value.{Datum, marked}
 use Rattle.ov_stage.specs.Staging.{entry_if_found}
 use Rattle.ov_stage.specs.declared.indexed.Indexed.{Indexed}
 

@@ -1,8 +1,9 @@
-ghost use Rattle.std.specs.Prelude.{◌≡◌, None, not, option_map, IfOk};
+ghost use Rattle.std.specs.Prelude.{◌≡◌, not, option_map, IfOk};
 ghost use Rattle.std.specs.FinMap.{keys};
 ghost use Rattle.serde_json.specs.View.{view};
 ghost use Rattle.ov_specs.specs.values.Value.{set_of};
 ghost use Rattle.ov_specs.specs.values.Reading.{atoms_read};
+ghost use Rattle.ov_specs.specs.values.Uuid.{no_names};
 ghost use Rattle.ov_specs.specs.schema.Schema.{is_empty, choices_of};
 ghost use Rattle.ov_atoms.specs.Views.{kind_view};
 ghost use Rattle.ov_schema_text.specs.ShapeViews.{name_view};
@@ -33,7 +34,7 @@ pub fn read_choices(
 
 fn read_set(alloc: Global, kind: AtomKind, tree: &Value) -> Result<Option<Datum>, AllocError>
     ensures { IfOk result (λ o. option_map set_in o
-        ≡ option_map set_of (atoms_read (λ name. None) (kind_view kind) (view tree.now))) }
+        ≡ option_map set_of (atoms_read no_names (kind_view kind) (view tree.now))) }
 {
     match read_datum(alloc, tree, Kinds::Single(kind), &NoNames) {
         Ok(datum) => Ok(Some(datum)),

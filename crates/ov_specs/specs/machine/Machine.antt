@@ -408,11 +408,15 @@ ends (Some tried) = when (none_listed tried.others) (Some tried.stepped)
 
 -- ---- settling: the transactions that wait are tried again
 
--- The transaction is tried again, at its present age and with the locks that its session owns now. If an allocation fails,
--- its session is closed instead.
+-- What comes of a transaction in this state of the machine, at its age and with the locks that its session owns there, if the
+-- schema is this one (RFC 7047, 4.1.3, 5.2.6).
+abbrev pub tried_in : Schema → State → Outstanding → TransactionOutcome
+tried_in schema s o = transaction schema s.database (owns s.queues o.session) o.draws (s.moment - o.arrival) o.operations
+
+-- The transaction is tried again, now. If an allocation fails, its session is closed instead.
 abbrev pub tries_again : State → Outstanding → Option Outcome → Option Stepped
 tries_again s o (Some NoMemory) = Some (closed s o.session)
-tries_again s o outcome = attempt s o (transaction s.schema s.database (owns s.queues o.session) o.draws (s.moment - o.arrival) o.operations) outcome
+tries_again s o outcome = attempt s o (tried_in s.schema s o) outcome
 
 -- the store kept the changes: so the database is another
 abbrev pub is_kept : Option Outcome → Bool

@@ -1,6 +1,7 @@
 -- The "row" of an insert and of an update (RFC 7047, 5.1, <row>, 5.2.1 and 5.2.3).
 use Rattle.std.specs.Prelude.{ℕ, ◌&&◌, not, List, [], ◌∷◌, Bool, if◌then◌else◌, Option, Some, None, Result, Ok, Err}
-use Rattle.std.specs.FinMap.{empty, get, insert, entries}
+use Rattle.std.specs.FinMap.{FinMap, empty, get, insert, entries}
+use Rattle.std.specs.declared.cmp.Ordering.{Ordering}
 use Rattle.serde_json.specs.Data.{Data, Members}
 use Rattle.ov_specs.specs.operations.Errors.{OpError, SyntaxError, UnknownColumn, ConstraintViolation}
 use Rattle.ov_specs.specs.rows.RowNames.{is_own_column}
@@ -36,10 +37,11 @@ given_value may_be names name None d = Err UnknownColumn
 given_value may_be names name (Some column) d =
     if may_be name column then fitting_reading column (reads names (kinds_of column.type_of) d) else Err ConstraintViolation
 
--- the columns with these in place of those of their names (RFC 7047, 5.2.3)
-abbrev pub with_values : List (List ℕ × Datum) → Columns → Columns
-with_values [] columns = columns
-with_values (value ∷ values) columns = with_values values (insert columns value.0 value.1)
+-- the map with these values at their keys, in place of those that stood there; the keys of columns are their names (RFC 7047,
+-- 5.2.3)
+abbrev pub with_values : {K V : Type 0} {R : K → K → Ordering} → List (K × V) → FinMap R V → FinMap R V
+with_values [] values = values
+with_values (value ∷ more) values = with_values more (insert values value.0 value.1)
 
 -- a value with the name of its column
 abbrev pub named_value : List ℕ → Result Datum OpError → Result (List ℕ × Datum) OpError

@@ -55,9 +55,13 @@ is_stored_as columns (OfCells cells) = pointwise same_cell (entries (cells_of co
 abbrev pub row_if_stored : Uuid → Body → Columns → Option Row
 row_if_stored version body columns = if is_stored_as columns body then Some (record { version = version; columns = columns }) else None
 
+-- the columns of a row of the table with the values that are stored for them, if each has one; more may be stored
+abbrev pub columns_stored : Body → Table → Option Columns
+columns_stored body table = option_map from_entries (all_results (value_held body) (row_columns table))
+
 -- the row of the table that this is: it has a fitting value for each column, and nothing else
 abbrev pub row_of_body : Table → Uuid → Body → Option Row
-row_of_body table version body = option_and_then (λ values. row_if_stored version body (from_entries values)) (all_results (value_held body) (row_columns table))
+row_of_body table version body = option_and_then (row_if_stored version body) (columns_stored body table)
 
 -- ---- all lines
 

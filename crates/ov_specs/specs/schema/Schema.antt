@@ -6,7 +6,7 @@ use Rattle.std.specs.Str.{bytes_eq}
 use Rattle.serde_json.specs.Data.{Data}
 use Rattle.ov_specs.specs.wire.Tree.{has_real}
 use Rattle.ov_specs.specs.values.Value.{AtomKind, Integers, Uuids, Atom, AtomSet, set_of}
-use Rattle.ov_specs.specs.values.Uuid.{is_id}
+use Rattle.ov_specs.specs.values.Uuid.{is_id, no_names}
 use Rattle.ov_specs.specs.values.Reading.{atoms_read}
 use Rattle.ov_specs.specs.schema.SchemaShape.{TypeName, Kind, Real, BaseShape, Most, AtMost, Unlimited, TypeShape, ColumnShape, TableShape, SchemaShape, plain_base, schema_shape}
 use Rattle.ov_specs.specs.schema.SchemaTypes.{Reference, BaseType, ColumnType, Column, Table, Schema}
@@ -162,7 +162,7 @@ is_set_of_one_or_more (Some (a ∷ atoms)) = true
 
 -- it reads as a set of at least one atom of the type; no row has a name here (RFC 7047, 3.2, <base-type>, enum)
 abbrev pub reads_as_choices : TypeName → Data → Bool
-reads_as_choices (Kind of) d = is_set_of_one_or_more (atoms_read (λ name. None) of d)
+reads_as_choices (Kind of) d = is_set_of_one_or_more (atoms_read no_names of d)
 reads_as_choices Real d = false
 
 -- an `enum` that does not read so (RFC 7047, 3.2, <base-type>)
@@ -235,7 +235,7 @@ refusal_of_shape s = first_that_holds (
 
 -- the set of an `enum` (RFC 7047, 3.2, <base-type>)
 abbrev pub choices_of : TypeName → Option Data → Option AtomSet
-choices_of (Kind of) (Some d) = option_map set_of (atoms_read (λ name. None) of d)
+choices_of (Kind of) (Some d) = option_map set_of (atoms_read no_names of d)
 choices_of name d = None
 
 -- the atomic type of a name; no accepted schema has "real" (RFC 7047, 3.2, <atomic-type>)

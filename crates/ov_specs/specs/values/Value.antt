@@ -85,8 +85,8 @@ AtomSet = map.FinMap atom_cmp (Unit {0})
 abbrev pub AtomMap : Type 0
 AtomMap = map.FinMap atom_cmp Atom
 
--- an atom as an entry of a set
-abbrev pub marked : Atom → Atom × Unit {0}
+-- an element as an entry of a set
+abbrev pub marked : {A : Type 0} → A → A × Unit {0}
 marked a = (a, tt)
 
 -- the set of these atoms; equal ones merge (RFC 7047, 5.1, <set>)

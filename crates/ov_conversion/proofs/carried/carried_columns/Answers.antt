@@ -1,9 +1,10 @@
 use Rattle.std.proofs.Common.{map, filter, not, sym, ◌∙◌}
 use Rattle.std.proofs.lemmas.List.{at_drop_all}
 use Rattle.std.proofs.lemmas.Result.{IfOk-weaker}
+use Rattle.ov_specs.specs.operations.GivenRow.{with_values}
 use Rattle.ov_specs.specs.conversion.Carried.{carried_value}
 use Rattle.ov_specs.specs.rows.RowNames.{is_own_column}
-use Rattle.ov_conversion.proofs.Columns.{with_values, carried_columns-is}
+use Rattle.ov_conversion.proofs.Columns.{carried_columns-is}
 use Rattle.ov_conversion.proofs.carried.carried_columns.Goals as goal
 
 pub returns : goal.returns

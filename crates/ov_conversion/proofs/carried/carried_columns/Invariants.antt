@@ -1,7 +1,7 @@
 use Rattle.std.proofs.Common.{◌≡◌, drop, map, filter, not}
+use Rattle.ov_specs.specs.operations.GivenRow.{with_values}
 use Rattle.ov_specs.specs.conversion.Carried.{carried_value}
 use Rattle.ov_specs.specs.rows.RowNames.{is_own_column}
-use Rattle.ov_conversion.proofs.Columns.{with_values}
 use Rattle.ov_conversion.proofs.carried.carried_columns.Given as goal
 
 abbrev pub invariant-loop-name : goal.invariant-loop-name

@@ -1,8 +1,7 @@
 use Rattle.std.proofs.Common.{◌≡◌, drop, option_map}
 use Rattle.serde_json.specs.View.{view}
-use Rattle.ov_specs.specs.rows.Held.{OneText}
+use Rattle.ov_specs.specs.rows.Held.{OneText, columns_stored}
 use Rattle.ov_specs.specs.wire.Message.{tree_of}
-use Rattle.ov_db.specs.Stored.{columns_stored}
 use Rattle.ov_db.proofs.BodyRows.{added_by}
 use Rattle.ov_db.proofs.read.values_of.Given as goal
 

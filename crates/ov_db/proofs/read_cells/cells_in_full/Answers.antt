@@ -3,11 +3,10 @@ use Rattle.std.proofs.lemmas.Result.{err_from_is_err_and}
 use Rattle.std.specs.Cmp.Lexicographic.{pointwise}
 use Rattle.std.specs.FinMap.{entries}
 use Rattle.ov_specs.specs.rows.Cells.{Cells}
-use Rattle.ov_specs.specs.rows.Held.{OfCells, same_cell}
+use Rattle.ov_specs.specs.rows.Held.{OfCells, columns_stored, same_cell}
 use Rattle.ov_keeper.specs.declared.cell_line.Cell.{Cell}
 use Rattle.ov_keeper.specs.Views.{cells_view}
 use Rattle.ov_db.specs.Loading.{IsNotLoaded}
-use Rattle.ov_db.specs.Stored.{columns_stored}
 use Rattle.ov_db.proofs.BodyRows.{no_row, row_if}
 use Rattle.ov_db.proofs.read_cells.cells_in_full.Goals as goal
 

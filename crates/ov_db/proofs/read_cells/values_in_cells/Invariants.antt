@@ -1,7 +1,6 @@
 use Rattle.std.proofs.Common.{◌≡◌, drop}
-use Rattle.ov_specs.specs.rows.Held.{OfCells}
+use Rattle.ov_specs.specs.rows.Held.{OfCells, columns_stored}
 use Rattle.ov_keeper.specs.Views.{cells_view}
-use Rattle.ov_db.specs.Stored.{columns_stored}
 use Rattle.ov_db.proofs.BodyRows.{added_by}
 use Rattle.ov_db.proofs.read_cells.values_in_cells.Given as goal
 

@@ -1,7 +1,8 @@
 use Rattle.std.proofs.Common.{T, map, ap, sym, subst, ◌∙◌}
 use Rattle.std.specs.FinMap.{is_sorted, remove}
 use Rattle.ov_specs.specs.rows.Lines.{line_cmp}
-use Rattle.ov_refs.specs.Holding.{KeySet, marked, set_of_keys}
+use Rattle.ov_refs.specs.Holding.{KeySet, set_of_keys}
+use Rattle.ov_specs.specs.values.Value.{marked}
 use Rattle.ov_refs.specs.StoredKeys.{keys_in}
 use Rattle.ov_refs.proofs.KeySets.{marks-ascend, set_of-remove, set_of-none, set_of-gone, set_of-other}
 use Rattle.ov_refs.proofs.key_set.KeySet.remove.Goals.{in-One-1, in-Many-1, in-Empty-1}
