@@ -112,8 +112,8 @@ entries-without_s1 = ap entries (same_map key_total key_exact without_s1 empty (
 committed-without_s1 : committed net0 with_s1 (numbered 3) without_s1 ≡ Ok without_s1
 committed-without_s1 = enough_committed net0 with_s1 (numbered 3) without_s1 (rw entries-without_s1 refl) (rw (entries-without_s1, entries-tables) refl)
 
-is_met : transaction net0 with_s1 owns_none (numbered 3 ∷ []) 0 wait_then_delete ≡ Completes (item empty_result (item (count_result 1) no_items)) without_s1
-is_met = rw switch_table (rw entries-with_s1 (rw entries-with_s1 (rw committed-without_s1 refl)))
+met_wait_deletes : transaction net0 with_s1 owns_none (numbered 3 ∷ []) 0 wait_then_delete ≡ Completes (item empty_result (item (count_result 1) no_items)) without_s1
+met_wait_deletes = rw switch_table (rw entries-with_s1 (rw entries-with_s1 (rw committed-without_s1 refl)))
 
 differ_again : same_database with_s1 without_s1 ≡ false
 differ_again = rw (entries-with_s1, entries-without_s1) refl
@@ -124,9 +124,9 @@ inserts_and_meets outcome = transacts 2 (item insert_s1 no_items) (numbered 1 �
 
 pub both_come_in_order : from_nothing (at 0 Open ∷ at 0 Open ∷ waits ∷ inserts_and_meets Committed ∷ []) ≡ empty ∷ with_s1 ∷ without_s1 ∷ []
 unfolding digits serde_json_on_literals
-both_come_in_order = rw (is_blocked 0) (rw insert_one (rw differ (rw is_met (rw differ_again refl))))
+both_come_in_order = rw (is_blocked 0) (rw insert_one (rw differ (rw met_wait_deletes (rw differ_again refl))))
 
 -- the store fails to keep the second one
 pub the_first_comes_alone : from_nothing (at 0 Open ∷ at 0 Open ∷ waits ∷ inserts_and_meets Failed ∷ []) ≡ empty ∷ with_s1 ∷ []
 unfolding digits serde_json_on_literals
-the_first_comes_alone = rw (is_blocked 0) (rw insert_one (rw differ (rw is_met (rw differ_again refl))))
+the_first_comes_alone = rw (is_blocked 0) (rw insert_one (rw differ (rw met_wait_deletes (rw differ_again refl))))

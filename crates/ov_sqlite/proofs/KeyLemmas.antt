@@ -33,7 +33,7 @@ use Rattle.sqlite_rules.proofs.TableLemmas.{put_all_keeps, put_all_adds}
 use Rattle.ov_specs.specs.rows.Lines.{LineKey}
 use Rattle.ov_tables.specs.Tables.{plain_table, HasTable}
 use Rattle.ov_specs.specs.rows.Cells.{Head, Cell}
-use Rattle.ov_tables.specs.Format.{HasNumber, IsKeyed, IsHead, IsCell, row_key, rows_of, head_of, cell_of}
+use Rattle.ov_tables.specs.Format.{HasNumber, IsKeyed, IsHead, IsCell, row_key, rows_listed, head_of, cell_of}
 use Rattle.ov_tables.specs.Holding.{IsNumbered}
 use Rattle.ov_tables.proofs.TableLemmas.{found_has}
 use Rattle.ov_tables.proofs.ListingLemmas.{rows_are}
@@ -117,7 +117,7 @@ abbrev pub AreApart : List ℕ → List Row → Type 0
 AreApart places rows = AllByRecursion (λ r. AllByRecursion (Apart places r) rows) rows
 
 -- no two rows of a table have one primary key and two numbers
-pub apart_by_key : (db : Database) (name : List ℕ) (tree : ℕ) (columns : List Column) (key : List ℕ) → HasTable db.schema (plain_table name tree columns key) → IsDatabase db → AreApart key (rows_of name db.trees)
+pub apart_by_key : (db : Database) (name : List ℕ) (tree : ℕ) (columns : List Column) (key : List ℕ) → HasTable db.schema (plain_table name tree columns key) → IsDatabase db → AreApart key (rows_listed name db.trees)
 apart_by_key db name tree columns key has sound =
     let table = plain_table name tree columns key in
     let here = found_has _ db.schema.tables table has.named in

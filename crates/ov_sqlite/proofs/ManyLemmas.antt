@@ -29,7 +29,7 @@ use Rattle.sqlite_schema.specs.declared.schema.Column.{Column}
 use Rattle.ov_specs.specs.rows.Lines.{LineKey}
 use Rattle.ov_specs.specs.rows.Cells.{CellLine, CellLines, Cells, cell_lines}
 use Rattle.ov_tables.specs.Tables.{HasTable, plain_table}
-use Rattle.ov_tables.specs.Format.{IsCell, row_key, head_of, cell_of, rows_of, stored_cells}
+use Rattle.ov_tables.specs.Format.{IsCell, row_key, head_of, cell_of, rows_listed, stored_cells}
 use Rattle.ov_tables.specs.Holding.{IsNumbered}
 use Rattle.ov_tables.proofs.TableLemmas.{our_step, Stands}
 use Rattle.ov_tables.proofs.ListingLemmas.{Touches, stands_in, rows_are, rows_after, touches}
@@ -53,8 +53,8 @@ next_rows (f ∷ fs) rows = f (next_rowid rows) ∷ next_rows fs (put_row (f (ne
 -- rows with new numbers are added
 pub record InsertsAll (table : Table) (fs : List (ℤ → Row)) (old new : State) : Type 0 where
   pub only : Touches table old.now new.now
-  pub rows : rows_of table.name new.now.trees ≡ put_all (rows_of table.name old.now.trees) (next_rows fs (rows_of table.name old.now.trees))
-  pub fresh : are_fresh (rows_of table.name old.now.trees) (next_rows fs (rows_of table.name old.now.trees)) ≡ true
+  pub rows : rows_listed table.name new.now.trees ≡ put_all (rows_listed table.name old.now.trees) (next_rows fs (rows_listed table.name old.now.trees))
+  pub fresh : are_fresh (rows_listed table.name old.now.trees) (next_rows fs (rows_listed table.name old.now.trees)) ≡ true
 
 -- the rows that a statement of these terms adds
 abbrev pub AddsAll : Table → List Term → ℕ → Row → List (ℤ → Row) → Type 0
@@ -87,7 +87,7 @@ module _ (old new : State) (name : List ℕ) (tree : ℕ) (columns : List Column
       let step = subst (Applies schema _ db edit) (sym path) (our_step schema edit has _ db written.0 written.1) in
       let only = touches old.now new.now table has sound _ edit refl step (ap (λ (d : Database). d.schema) now) w.sound in
       let news : edit.news ≡ next_rows fs (db table.tree) = ap (λ all. (edit_of db table [] Chosen 0 all).news) given.1.1 ∙ adds db in
-      let was : db table.tree ≡ rows_of table.name db = sym (rows_are old.now table has sound) in
+      let was : db table.tree ≡ rows_listed table.name db = sym (rows_are old.now table has sound) in
       record {
         only = only;
         rows = rows_after old.now new.now table only has sound ∙ step.rows ∙ ap (λ all. put_all (db table.tree) all) news ∙ ap (λ rows. put_all rows (next_rows fs rows)) was;

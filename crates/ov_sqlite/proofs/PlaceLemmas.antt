@@ -16,7 +16,7 @@ use Rattle.ov_specs.specs.schema.SchemaTypes.{name_cmp}
 use Rattle.ov_keeper.specs.declared.cell_line.Cell.{Cell}
 use Rattle.ov_keeper.specs.Views.{cell_entry}
 use Rattle.ov_sqlite.specs.Joining.{CellEntry}
-use Rattle.ov_sqlite.specs.Renewing.{shown_entry, DoAscend, AreOfColumns, HasVersion, IsBodyChanged, IsChangedInPlace}
+use Rattle.ov_sqlite.specs.Renewing.{shown_entry, DoCellsAscend, AreOfColumns, HasVersion, IsBodyChanged, IsChangedInPlace}
 use Rattle.ov_sqlite.proofs.CellLemmas.{names_total, names_exact, same_name_is, name_itself}
 use Rattle.ov_sqlite.proofs.NumberLemmas.{all_push, all_front, taken_more, ascending_push}
 use Rattle.ov_sqlite.proofs.HeldLemmas.{map_all}
@@ -109,7 +109,7 @@ below_other a b below same = let clash : Less ≡ Equal = sym below ∙ ap (name
 abbrev pub mixed : ℕ → List Cell → List Row → List CellEntry
 mixed i cells rows = map cell_entry (take i cells) ++ map shown_entry (drop i rows)
 
-module _ (cells : List Cell) (rows : List Row) (i : ℕ) (x : Cell) (y : Row) (low : i < length cells) (as_many : length rows ≡ length cells) (x_is : x ≡ get_or cells i x) (y_is : y ≡ get_or rows i y) (of : AreOfColumns rows cells) (ascends : DoAscend cells) where
+module _ (cells : List Cell) (rows : List Row) (i : ℕ) (x : Cell) (y : Row) (low : i < length cells) (as_many : length rows ≡ length cells) (x_is : x ≡ get_or cells i x) (y_is : y ≡ get_or rows i y) (of : AreOfColumns rows cells) (ascends : DoCellsAscend cells) where
   abbrev front : List CellEntry
   front = map cell_entry (take i cells)
 
@@ -167,7 +167,7 @@ below_push {S} of cells x last n above low below = all_push _ cells x (below n (
     further None h = h
     further (Some l) h = names_total.trans (of l) x.column n h low
 
-pub ascend_push : (cells : List Cell) (x : Cell) → DoAscend cells → AllByRecursion (λ (c : Cell). name_cmp c.column x.column ≡ Less) cells → DoAscend (cells ++ x ∷ [])
+pub ascend_push : (cells : List Cell) (x : Cell) → DoCellsAscend cells → AllByRecursion (λ (c : Cell). name_cmp c.column x.column ≡ Less) cells → DoCellsAscend (cells ++ x ∷ [])
 ascend_push cells x ascends below = ascending_push _ cells x ascends below
 
 -- ---- columns that agree

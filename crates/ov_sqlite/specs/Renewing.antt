@@ -23,8 +23,8 @@ HasRead key rows lines =
     → (version : Uuid) × (get lines key ≡ Some (version, from_entries (map shown_entry rows)))
 
 -- the names of the cells' columns ascend
-abbrev pub DoAscend : List Cell → Type 0
-DoAscend cells = IsAscending (λ a b. name_cmp a.column b.column ≡ Less) cells
+abbrev pub DoCellsAscend : List Cell → Type 0
+DoCellsAscend cells = IsAscending (λ a b. name_cmp a.column b.column ≡ Less) cells
 
 -- each row is of the column of the cell at its place
 abbrev pub AreOfColumns : List Row → List Cell → Type 0

@@ -10,7 +10,7 @@ ghost use Rattle.ov_keeper.specs.Views.{cells_view};
 ghost use Rattle.ov_tables.specs.Holding.{MayHoldCells};
 ghost use Rattle.ov_sqlite.specs.Changing.{MakesRows};
 ghost use Rattle.ov_sqlite.specs.Writing.{WritesTables};
-ghost use Rattle.ov_sqlite.specs.Renewing.{DoAscend, AreOfColumns, shown_entry};
+ghost use Rattle.ov_sqlite.specs.Renewing.{DoCellsAscend, AreOfColumns, shown_entry};
 ghost use Rattle.ov_sqlite.specs.Renewing.{HasVersion, HasBody, IsBodyChanged, IsChangedInPlace};
 
 use crate::value::{id_bytes, is_blob_at, is_text_at};
@@ -34,7 +34,7 @@ fn is_after(name: &str, last: Option<&str>) -> bool
 
 /// Whether the names of the cells' columns ascend.
 fn do_ascend(cells: &[Cell]) -> bool
-    ensures { IsTrue result → DoAscend cells.now }
+    ensures { IsTrue result → DoCellsAscend cells.now }
 {
     let mut last = None;
     for cell in cells {
@@ -65,7 +65,7 @@ pub(crate) fn are_of(rows: &[Row], cells: &[Cell]) -> bool
     ensures some { IsTrue result → 0 < length rows.now }
     ensures as_many { IsTrue result → length rows.now ≡ length cells.now }
     ensures columns { IsTrue result → AreOfColumns rows.now cells.now }
-    ensures ascend { IsTrue result → DoAscend cells.now }
+    ensures ascend { IsTrue result → DoCellsAscend cells.now }
 {
     if rows.len() == 0 || rows.len() != cells.len() {
         return false;
@@ -139,7 +139,7 @@ pub(crate) fn update_cells<S: Alter>(
 ) -> Result<(), Error>
     requires as_many { length rows.now ≡ length line.now.cells.items }
     requires columns { AreOfColumns rows.now line.now.cells.items }
-    requires ascend { DoAscend line.now.cells.items }
+    requires ascend { DoCellsAscend line.now.cells.items }
     ensures writes { WritesTables S.Store result MayHoldCells
         (MakesRows (IsChangedInPlace (line.now.table, line.now.id)
         (line.now.version, from_entries (map shown_entry rows.now))

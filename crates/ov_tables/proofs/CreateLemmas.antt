@@ -15,7 +15,7 @@ use Rattle.sqlite.proofs.Callers.{IsPlain, command_of, statement_of, runs_as}
 use Rattle.sqlite_rules.specs.Lists.{Has}
 use Rattle.sqlite_rules.proofs.ListLemmas.{all_has, all_from, has_right}
 use Rattle.ov_tables.specs.Tables.{meta_table, head_table, cell_table, tree_number, with_row_tables, HasFreeName, HasFreeNames, HasTable, create_meta, create_head, create_cell}
-use Rattle.ov_tables.specs.Format.{rows_of}
+use Rattle.ov_tables.specs.Format.{rows_listed}
 use Rattle.ov_tables.specs.Making.{Creates, CreatesRows, IsBare, MakesOurs, Fills, MakesFilled}
 use Rattle.ov_tables.proofs.TableLemmas.{found_has, tree_is}
 use Rattle.ov_tables.proofs.ListingLemmas.{rows_are}
@@ -99,7 +99,7 @@ both_created old mid new head cell =
     }
 
 -- the rows of a table that has this tree
-rows_at : (db : Database) (table : Table) (tree : ℕ) → HasTable db.schema table → IsDatabase db → table.tree ≡ tree → rows_of table.name db.trees ≡ db.trees tree
+rows_at : (db : Database) (table : Table) (tree : ℕ) → HasTable db.schema table → IsDatabase db → table.tree ≡ tree → rows_listed table.name db.trees ≡ db.trees tree
 rows_at db table tree has sound is = rows_are db table has sound ∙ ap db.trees is
 
 -- beside `meta`, which has no rows, these two make up stored format 2

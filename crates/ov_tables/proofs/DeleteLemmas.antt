@@ -25,7 +25,7 @@ use Rattle.sqlite.proofs.Callers.{IsPlain, command_of, runs_as}
 use Rattle.sqlite_syntax.specs.declared.statement.Parsed.{Parsed}
 use Rattle.sqlite_draft.specs.Query.{query_of}
 use Rattle.ov_tables.specs.Tables.{HasTable}
-use Rattle.ov_tables.specs.Format.{rows_of}
+use Rattle.ov_tables.specs.Format.{rows_listed}
 use Rattle.ov_tables.proofs.TableLemmas.{our_step, Stands}
 use Rattle.ov_tables.proofs.ListingLemmas.{Touches, stands_in, rows_are, rows_after, touches}
 use Rattle.ov_tables.proofs.Statements.{numbers, runs, does}
@@ -54,8 +54,8 @@ passing tests params r = list_all (holds (params ∷ r ∷ [])) tests
 pub record Deletes (table : Table) (tests : List Term) (params : Row) (old new : State) : Type 0 where
   pub only : Touches table old.now new.now
   pub rows : List Row
-  pub same : (ordered : List Output) × IsPermutation (map (λ r. ([], rowid r ∷ [])) (filter (passing tests params) (rows_of table.name old.now.trees))) ordered × (rows ≡ map (λ o. o.1) ordered)
-  pub left : rows_of table.name new.now.trees ≡ without_all (rows_of table.name old.now.trees) (ids_of rows)
+  pub same : (ordered : List Output) × IsPermutation (map (λ r. ([], rowid r ∷ [])) (filter (passing tests params) (rows_listed table.name old.now.trees))) ordered × (rows ≡ map (λ o. o.1) ordered)
+  pub left : rows_listed table.name new.now.trees ≡ without_all (rows_listed table.name old.now.trees) (ids_of rows)
 
 module _ (old new : State) (table : Table) (sql : List ℕ) (tests : List Term) (params : Row) (parsed : Parsed) (has : HasTable old.now.schema table) (sound : IsDatabase old.now)
     (known : (at : ℕ) → Stands old.now.schema table at → understood old.now.schema sql ≡ Ok (does parsed (Delete at (runs (numbers tests table.tree))))) where
@@ -80,8 +80,8 @@ module _ (old new : State) (table : Table) (sql : List ℕ) (tests : List Term) 
       let step = subst (Applies schema _ db edit) (sym path) (our_step schema edit has _ db written.0 written.1) in
       let only = touches old.now new.now table has sound _ edit refl step (ap (λ (d : Database). d.schema) now) w.sound in
       let a : IsAnswer gone (overlay db []) params given.0 = given.1.answer Null in
-      let read : overlay db [] table.tree ≡ rows_of table.name db = rw it.not_high (sym (rows_are old.now table has sound)) in
-      let kept : a.kept ≡ map (λ r. ([], rowid r ∷ [])) (filter (passing tests params) (rows_of table.name db)) =
+      let read : overlay db [] table.tree ≡ rows_listed table.name db = rw it.not_high (sym (rows_are old.now table has sound)) in
+      let kept : a.kept ≡ map (λ r. ([], rowid r ∷ [])) (filter (passing tests params) (rows_listed table.name db)) =
       a.distinct ∙ ap (map (output gone)) (a.grouped ∙ flat_filter (passing tests params) (λ r. params ∷ r ∷ []) (overlay db [] table.tree)) ∙ map_then (λ r. params ∷ r ∷ []) (output gone) (filter (passing tests params) (overlay db [] table.tree))
       ∙ ap (λ rows. map (λ r. ([], rowid r ∷ [])) (filter (passing tests params) rows)) read in
       record {

@@ -15,7 +15,7 @@ use Rattle.sqlite_trees.proofs.ListLemmas.{all_weaker}
 use Rattle.sqlite_rules.specs.Lists.{Has}
 use Rattle.sqlite_rules.proofs.ListLemmas.{all_has, all_from}
 use Rattle.ov_tables.specs.Tables.{meta_table, line_table, head_table, cell_table, table_of, tree_number, cell_trees, line_trees, HasTable, HasFreeName, HasLineTables, HasCellTables}
-use Rattle.ov_tables.specs.Format.{HasNumber, IsMeta, IsLine, IsHead, IsCell, rows_of}
+use Rattle.ov_tables.specs.Format.{HasNumber, IsMeta, IsLine, IsHead, IsCell, rows_listed}
 use Rattle.ov_tables.specs.Holding.{HoldsLines, HoldsCells, KeepsOthers, is_among}
 use Rattle.ov_tables.specs.Emptying.{Clears, Empties}
 use Rattle.ov_tables.specs.Making.{CreatesRows, IsBare}
@@ -32,7 +32,7 @@ use Rattle.ov_tables.proofs.CreateLemmas.{bare_rows, meta_last, head_last, cell_
 -- ---- one table
 
 module _ (old new : State) (table : Table) (sql : List ℕ) (parsed : Parsed) (has : HasTable old.now.schema table) (sound : IsDatabase old.now)
-    (known : (at : ℕ) → Stands old.now.schema table at → understood old.now.schema sql ≡ Ok (does parsed (Delete at (runs (numbers [] table.tree))))) (all : AllByRecursion HasNumber (rows_of table.name old.now.trees)) where
+    (known : (at : ℕ) → Stands old.now.schema table at → understood old.now.schema sql ≡ Ok (does parsed (Delete at (runs (numbers [] table.tree))))) (all : AllByRecursion HasNumber (rows_listed table.name old.now.trees)) where
   pub clears : (count : ℕ) → Executes sql [] old new (Ok count) → IsTrue new.in_transaction → IsTrue old.is_open → IsTrue new.is_open → tree_number old.now.schema table.name ≡ table.tree → Clears table.name old new
   clears count ran mode was up tree =
       let d = deletes old new table sql [] [] parsed has sound known count ran in
@@ -41,7 +41,7 @@ module _ (old new : State) (table : Table) (sql : List ℕ) (parsed : Parsed) (h
         was_open = was;
         is_open = up;
         schema = d.only.schema;
-        rows = d.left ∙ none_remain (rows_of table.name old.now.trees) d.rows all d.same;
+        rows = d.left ∙ none_remain (rows_listed table.name old.now.trees) d.rows all d.same;
         others = subst (λ n. KeepsOthers (n ∷ []) old.now.schema old.now.trees new.now.trees) (sym tree) (others_kept old.now new.now table d.only (table.tree ∷ []) (first_among table.tree []));
         sound = d.only.sound;
       }

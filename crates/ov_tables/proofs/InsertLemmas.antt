@@ -23,7 +23,7 @@ use Rattle.sqlite.proofs.Callers.{IsPlain, command_of, runs_as}
 use Rattle.sqlite_syntax.specs.declared.statement.Parsed.{Parsed}
 use Rattle.sqlite_schema.specs.declared.schema.Column.{Column}
 use Rattle.ov_tables.specs.Tables.{HasTable, plain_table, meta_table, head_table, cell_table}
-use Rattle.ov_tables.specs.Format.{rows_of}
+use Rattle.ov_tables.specs.Format.{rows_listed}
 use Rattle.ov_tables.specs.Making.{meta_row}
 use Rattle.ov_tables.proofs.TableLemmas.{our_step, Stands}
 use Rattle.ov_tables.proofs.ListingLemmas.{Touches, stands_in, rows_are, rows_after, touches}
@@ -43,8 +43,8 @@ cast_null = either _ Null
 pub record Inserts (table : Table) (row : ℤ → Row) (old new : State) : Type 0 where
   pub only : Touches table old.now new.now
   pub number : ℤ
-  pub rows : rows_of table.name new.now.trees ≡ put_row (row number) (rows_of table.name old.now.trees)
-  pub fresh : are_fresh (rows_of table.name old.now.trees) (row number ∷ []) ≡ true
+  pub rows : rows_listed table.name new.now.trees ≡ put_row (row number) (rows_listed table.name old.now.trees)
+  pub fresh : are_fresh (rows_listed table.name old.now.trees) (row number ∷ []) ≡ true
 
 -- the row that a statement of these terms adds
 abbrev pub Adds : Table → List Term → ℕ → Row → (ℤ → Row) → Type 0
@@ -78,7 +78,7 @@ module _ (old new : State) (name : List ℕ) (tree : ℕ) (columns : List Column
       let only = touches old.now new.now table has sound _ edit refl step (ap (λ (d : Database). d.schema) now) w.sound in
       let n = next_rowid (db table.tree) in
       let news : edit.news ≡ row n ∷ [] = ap (λ all. (edit_of db table [] Chosen 0 all).news) given.1.1 ∙ adds db in
-      let was : db table.tree ≡ rows_of table.name db = sym (rows_are old.now table has sound) in
+      let was : db table.tree ≡ rows_listed table.name db = sym (rows_are old.now table has sound) in
       record {
         only = only;
         number = n;

@@ -15,7 +15,7 @@ use Rattle.sqlite_catalog.specs.Listing.{IsTableRow, IsIndexRow, is_table_row}
 use Rattle.sqlite.specs.Effect.{Database, IsDatabase}
 use Rattle.sqlite_trees.proofs.ListLemmas.{all_weaker}
 use Rattle.ov_tables.specs.Tables.{HasTable}
-use Rattle.ov_tables.specs.Format.{lists_table, tree_listed, rows_of}
+use Rattle.ov_tables.specs.Format.{lists_table, tree_listed, rows_listed}
 use Rattle.ov_tables.specs.Holding.{is_among, KeepsOthers}
 use Rattle.ov_tables.proofs.TableLemmas.{some_table, found_has, Stands, stands}
 
@@ -67,8 +67,8 @@ module _ (db : Database) (table : Table) (has : HasTable db.schema table) (sound
   pub stands_in : (at : ℕ) × Stands db.schema table at
   stands_in = stands db.schema table has (listed db table has sound).1
 
-  pub rows_are : rows_of table.name db.trees ≡ db.trees table.tree
-  unfolding rows_of
+  pub rows_are : rows_listed table.name db.trees ≡ db.trees table.tree
+  unfolding rows_listed
   rows_are = ap db.trees (listed db table has sound).0
 
 -- only the rows of this table have changed, and the entries of its indexes
@@ -110,13 +110,13 @@ touches_of old new table has was kept same sound =
 
 module _ (old new : Database) (table : Table) (t : Touches table old new) where
   -- the rows of the table itself
-  pub rows_after : HasTable old.schema table → IsDatabase old → rows_of table.name new.trees ≡ new.trees table.tree
-  unfolding rows_of
+  pub rows_after : HasTable old.schema table → IsDatabase old → rows_listed table.name new.trees ≡ new.trees table.tree
+  unfolding rows_listed
   rows_after has was = ap new.trees (still table.name old.trees new.trees t.catalog ∙ (listed old table has was).0)
 
   -- another table of ours keeps its rows
-  pub rows_beside : (other : Table) → HasTable old.schema other → IsDatabase old → other.tree ≢ table.tree → rows_of other.name new.trees ≡ rows_of other.name old.trees
-  unfolding rows_of
+  pub rows_beside : (other : Table) → HasTable old.schema other → IsDatabase old → other.tree ≢ table.tree → rows_listed other.name new.trees ≡ rows_listed other.name old.trees
+  unfolding rows_listed
   rows_beside other has was apart =
       ap new.trees (still other.name old.trees new.trees t.catalog ∙ (listed old other has was).0)
       ∙ all_has _ old.schema.tables other t.tables (found_has _ old.schema.tables other has.named) apart

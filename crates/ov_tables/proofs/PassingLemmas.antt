@@ -23,7 +23,7 @@ use Rattle.sqlite.specs.Effect.{IsDatabase}
 use Rattle.sqlite.specs.Command.TheVariants.{Select}
 use Rattle.ov_specs.specs.rows.Lines.{LineKey}
 use Rattle.ov_tables.specs.Tables.{HasTable, cell_table, cells_of_text}
-use Rattle.ov_tables.specs.Format.{IsCell, rows_of, rows_of_cell}
+use Rattle.ov_tables.specs.Format.{IsCell, rows_listed, rows_of_cell}
 use Rattle.ov_tables.specs.Querying.{ReadsKey, cell_selected}
 use Rattle.ov_tables.proofs.TableLemmas.{Stands}
 use Rattle.ov_tables.proofs.ListingLemmas.{stands_in, rows_are}
@@ -41,7 +41,7 @@ module _ (old new : State) (table : Table) (sql : List ℕ) (tests project : Lis
   outputs (r ∷ rows) = ap₂ (λ x xs. x ∷ xs) (shows r) (outputs rows)
 
   -- a SELECT with tests returns the rows that pass them
-  pub selects_passing : (rows : List Row) → Shown sql params old new rows → IsPermutation (map selected (filter (passing tests params) (rows_of table.name old.now.trees))) rows
+  pub selects_passing : (rows : List Row) → Shown sql params old new rows → IsPermutation (map selected (filter (passing tests params) (rows_listed table.name old.now.trees))) rows
   selects_passing rows h =
       let schema = old.now.schema in
       let tree = table.tree in
@@ -50,11 +50,11 @@ module _ (old new : State) (table : Table) (sql : List ℕ) (tests project : Lis
       let it = stood.1 in
       let is = known at it in
       let query = query_of (drafts tree tests project) in
-      let passed = filter (passing tests params) (rows_of table.name old.now.trees) in
+      let passed = filter (passing tests params) (rows_listed table.name old.now.trees) in
       let read = reads_as sql params old new schema refl (Select (runs (drafts tree tests project)) names) (ap command_of is) (subst IsPlain (sym is) (refl, refl)) (listed at it) rows h in
       let db = old.now.trees in
       let a : IsAnswer query (overlay db []) params rows = read.answer Null in
-      let here : overlay db [] tree ≡ rows_of table.name db = rw it.not_high (sym (rows_are old.now table has sound)) in
+      let here : overlay db [] tree ≡ rows_listed table.name db = rw it.not_high (sym (rows_are old.now table has sound)) in
       let kept : a.kept ≡ map (λ r. ([], selected r)) passed =
       a.distinct ∙ ap (map (output query)) (a.grouped ∙ flat_filter (passing tests params) (λ r. params ∷ r ∷ []) (overlay db [] tree)) ∙ map_then (λ r. params ∷ r ∷ []) (output query) (filter (passing tests params) (overlay db [] tree))
       ∙ outputs (filter (passing tests params) (overlay db [] tree)) ∙ ap (λ rows. map (λ r. ([], selected r)) (filter (passing tests params) rows)) here in

@@ -23,7 +23,7 @@ use Rattle.ov_tables.specs.Querying.{IsAsBefore}
 use Rattle.ov_tables.proofs.Statements.{drafts, runs, does}
 use Rattle.sqlite_draft.specs.Query.{query_of}
 use Rattle.sqlite.specs.Effect.{IsDatabase}
-use Rattle.ov_tables.specs.Format.{rows_of}
+use Rattle.ov_tables.specs.Format.{rows_listed}
 use Rattle.sqlite.specs.Command.TheVariants.{Select}
 use Rattle.ov_tables.proofs.RowLemmas.{map_then}
 use Rattle.ov_tables.proofs.KeepLemmas.{unchanged_keeps, rolled_keeps}
@@ -40,7 +40,7 @@ module _ (old new : State) (table : Table) (sql : List ℕ) (project : List Term
   outputs (r ∷ rows) = ap₂ (λ x xs. x ∷ xs) (shows r) (outputs rows)
 
   -- what a SELECT of a whole table returns
-  pub selects : (rows : List Row) → Shown sql [] old new rows → IsPermutation (map selected (rows_of table.name old.now.trees)) rows
+  pub selects : (rows : List Row) → Shown sql [] old new rows → IsPermutation (map selected (rows_listed table.name old.now.trees)) rows
   selects rows h =
       let schema = old.now.schema in
       let tree = table.tree in
@@ -52,12 +52,12 @@ module _ (old new : State) (table : Table) (sql : List ℕ) (project : List Term
       let read = reads_as sql [] old new schema refl (Select (runs (drafts tree [] project)) names) (ap command_of is) (subst IsPlain (sym is) (refl, refl)) (listed at it) rows h in
       let db = old.now.trees in
       let a : IsAnswer query (overlay db []) [] rows = read.answer Null in
-      let here : overlay db [] tree ≡ rows_of table.name db = rw it.not_high (sym (rows_are old.now table has sound)) in
-      let kept : a.kept ≡ map (λ r. ([], selected r)) (rows_of table.name db) =
+      let here : overlay db [] tree ≡ rows_listed table.name db = rw it.not_high (sym (rows_are old.now table has sound)) in
+      let kept : a.kept ≡ map (λ r. ([], selected r)) (rows_listed table.name db) =
       a.distinct ∙ ap (map (output query)) (a.grouped ∙ each (λ r. [] ∷ r ∷ []) (overlay db [] tree)) ∙ map_then (λ r. [] ∷ r ∷ []) (output query) (overlay db [] tree) ∙ outputs (overlay db [] tree) ∙ ap (map (λ r. ([], selected r))) here in
-      let same : IsPermutation (map (λ (o : Output). o.1) (map (λ r. ([], selected r)) (rows_of table.name db))) (map (λ (o : Output). o.1) a.ordered) =
+      let same : IsPermutation (map (λ (o : Output). o.1) (map (λ r. ([], selected r)) (rows_listed table.name db))) (map (λ (o : Output). o.1) a.ordered) =
       IsPermutation-map (λ (o : Output). o.1) _ _ (subst (λ k. IsPermutation k a.ordered) kept a.same) in
-      subst (λ xs. IsPermutation xs rows) (map_then (λ r. ([], selected r)) (λ (o : Output). o.1) (rows_of table.name db)) (subst (IsPermutation _) (sym a.shown) same)
+      subst (λ xs. IsPermutation xs rows) (map_then (λ r. ([], selected r)) (λ (o : Output). o.1) (rows_listed table.name db)) (subst (IsPermutation _) (sym a.shown) same)
 
 opened_by : (sql : List ℕ) (old new : State) (c : Compiled) (params : Row) (rows : List Row) (o : Option Returning) → ShowsRows old new sql c params rows o → IsTrue old.is_open
 opened_by sql old new c params rows None h = h.3.0.was_open

@@ -37,7 +37,7 @@ use Rattle.sqlite.proofs.Callers.{IsPlain, command_of, runs_as}
 use Rattle.sqlite_syntax.specs.declared.statement.Parsed.{Parsed}
 use Rattle.sqlite_draft.specs.Query.{query_of}
 use Rattle.ov_tables.specs.Tables.{HasTable}
-use Rattle.ov_tables.specs.Format.{rows_of, HasNumber}
+use Rattle.ov_tables.specs.Format.{rows_listed, HasNumber}
 use Rattle.ov_tables.specs.Holding.{IsNumbered}
 use Rattle.ov_tables.proofs.TableLemmas.{our_step, Stands}
 use Rattle.ov_tables.proofs.ListingLemmas.{Touches, stands_in, rows_are, rows_after, touches}
@@ -62,10 +62,10 @@ cast_given table = map (λ s. cast_row table (drop 1 s))
 pub record Updates (table : Table) (tests terms : List Term) (params : Row) (old new : State) (count : ℕ) : Type 0 where
   pub only : Touches table old.now new.now
   pub given : List Row
-  pub shows : GivesWith (λ r. eval_all terms (params ∷ r ∷ [])) (filter (passing tests params) (rows_of table.name old.now.trees)) given
-  pub rows : rows_of table.name new.now.trees ≡ put_all (without_all (rows_of table.name old.now.trees) (ids_of given)) (cast_given table given)
-  pub fresh : are_fresh (without_all (rows_of table.name old.now.trees) (ids_of given)) (cast_given table given) ≡ true
-  pub counted : count ≡ length (filter (passing tests params) (rows_of table.name old.now.trees))
+  pub shows : GivesWith (λ r. eval_all terms (params ∷ r ∷ [])) (filter (passing tests params) (rows_listed table.name old.now.trees)) given
+  pub rows : rows_listed table.name new.now.trees ≡ put_all (without_all (rows_listed table.name old.now.trees) (ids_of given)) (cast_given table given)
+  pub fresh : are_fresh (without_all (rows_listed table.name old.now.trees) (ids_of given)) (cast_given table given) ≡ true
+  pub counted : count ≡ length (filter (passing tests params) (rows_listed table.name old.now.trees))
 
 -- rows that have numbers keep them
 numbered_given : (rows news : List Row) → numbered Given rows news ≡ news
@@ -103,15 +103,15 @@ module _ (old new : State) (table : Table) (sql : List ℕ) (tests terms : List 
       let step = subst (Applies schema _ db edit) (sym path) (our_step schema edit has _ db written.0 written.1) in
       let only = touches old.now new.now table has sound _ edit refl step (ap (λ (d : Database). d.schema) now) w.sound in
       let a : IsAnswer asks (overlay db []) params given.0 = given.1.answer Null in
-      let read : overlay db [] table.tree ≡ rows_of table.name db = rw it.not_high (sym (rows_are old.now table has sound)) in
+      let read : overlay db [] table.tree ≡ rows_listed table.name db = rw it.not_high (sym (rows_are old.now table has sound)) in
       let row : Row → Output = λ r. ([], rowid r ∷ eval_all terms (params ∷ r ∷ [])) in
-      let kept : a.kept ≡ map row (filter (passing tests params) (rows_of table.name db)) =
+      let kept : a.kept ≡ map row (filter (passing tests params) (rows_listed table.name db)) =
       a.distinct ∙ ap (map (output asks)) (a.grouped ∙ flat_filter (passing tests params) (λ r. params ∷ r ∷ []) (overlay db [] table.tree)) ∙ map_then (λ r. params ∷ r ∷ []) (output asks) (filter (passing tests params) (overlay db [] table.tree))
       ∙ ap (λ rows. map row (filter (passing tests params) rows)) read in
-      let shows : GivesWith (λ r. eval_all terms (params ∷ r ∷ [])) (filter (passing tests params) (rows_of table.name db)) given.0 = (a.ordered, subst (λ k. IsPermutation k a.ordered) kept a.same, a.shown) in
-      let was : db table.tree ≡ rows_of table.name db = sym (rows_are old.now table has sound) in
+      let shows : GivesWith (λ r. eval_all terms (params ∷ r ∷ [])) (filter (passing tests params) (rows_listed table.name db)) given.0 = (a.ordered, subst (λ k. IsPermutation k a.ordered) kept a.same, a.shown) in
+      let was : db table.tree ≡ rows_listed table.name db = sym (rows_are old.now table has sound) in
       let news : edit.news ≡ cast_given table given.0 = numbered_given (without_all (db table.tree) (ids_of given.0)) (cast_given table given.0) in
-      let length_is : length edit.news ≡ length (filter (passing tests params) (rows_of table.name db)) = ap length news ∙ length-map given.0 (λ s. cast_row table (drop 1 s)) ∙ given_length _ _ given.0 shows in
+      let length_is : length edit.news ≡ length (filter (passing tests params) (rows_listed table.name db)) = ap length news ∙ length-map given.0 (λ s. cast_row table (drop 1 s)) ∙ given_length _ _ given.0 shows in
       record {
         only = only;
         given = given.0;
@@ -246,10 +246,10 @@ some_counted p (r ∷ rows) h = go (p r) (some_counted p rows) h
 
 module _ (table : Table) (tests terms : List Term) (params : Row) (old new : State) (count : ℕ) (done : Updates table tests terms params old new count) where
   abbrev was : List Row
-  was = rows_of table.name old.now.trees
+  was = rows_listed table.name old.now.trees
 
   -- the rows are those that were there, each that passed as the terms make it. Nothing is said of their order
-  pub updated_rows : AllByRecursion HasNumber was → Together (passing tests params) was → IsPermutation (map (renewed (passing tests params) (made table terms params)) was) (rows_of table.name new.now.trees)
+  pub updated_rows : AllByRecursion HasNumber was → Together (passing tests params) was → IsPermutation (map (renewed (passing tests params) (made table terms params)) was) (rows_listed table.name new.now.trees)
   updated_rows numbers together =
       let p = passing tests params in
       let f = λ (r : Row). eval_all terms (params ∷ r ∷ []) in
@@ -260,7 +260,7 @@ module _ (table : Table) (tests terms : List Term) (params : Row) (old new : Sta
       IsPermutation-trans _ _ _ first (IsPermutation-trans _ _ _ second (IsPermutation-trans _ _ _ third (IsPermutation-same _ _ (sym done.rows))))
 
   -- where the numbers rise and stay, the order is as it was
-  pub updated_rising : AllByRecursion HasNumber was → IsTable was → AllByRecursion (λ r. rowid (made table terms params r) ≡ rowid r) was → rows_of table.name new.now.trees ≡ map (renewed (passing tests params) (made table terms params)) was
+  pub updated_rising : AllByRecursion HasNumber was → IsTable was → AllByRecursion (λ r. rowid (made table terms params r) ≡ rowid r) was → rows_listed table.name new.now.trees ≡ map (renewed (passing tests params) (made table terms params)) was
   updated_rising numbers rises stay =
       let p = passing tests params in
       let together = together_by (λ r. r) p p was numbers (all_of _ (λ r. refl) was) (rising_numbered was rises) in

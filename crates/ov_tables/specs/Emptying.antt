@@ -7,7 +7,7 @@ use Rattle.sqlite.specs.Effect.{IsDatabase}
 use Rattle.sqlite.specs.State.{State}
 use Rattle.sqlite.specs.Tree.{Trees}
 use Rattle.ov_tables.specs.Tables.{tree_number, cell_trees, line_trees, HasTable, HasLineTables, HasCellTables}
-use Rattle.ov_tables.specs.Format.{HasNumber, rows_of}
+use Rattle.ov_tables.specs.Format.{HasNumber, rows_listed}
 use Rattle.ov_tables.specs.Holding.{HoldsLines, HoldsCells, KeepsTables, KeepsOthers}
 use Rattle.ov_tables.specs.Making.{IsBare}
 
@@ -16,7 +16,7 @@ abbrev pub MayClear : (ℕ → Table) → List ℕ → State → Type 0
 MayClear table name s =
     IsTrue s.is_open
     → HasTable s.now.schema (table (tree_number s.now.schema name)) × IsDatabase s.now
-    × AllByRecursion HasNumber (rows_of name s.now.trees)
+    × AllByRecursion HasNumber (rows_listed name s.now.trees)
 
 -- the rows of the table of this name are gone, and nothing else has changed
 pub record Clears (name : List ℕ) (old new : State) : Type 0 where
@@ -24,7 +24,7 @@ pub record Clears (name : List ℕ) (old new : State) : Type 0 where
   pub was_open : IsTrue old.is_open
   pub is_open : IsTrue new.is_open
   pub schema : new.now.schema ≡ old.now.schema
-  pub rows : rows_of name new.now.trees ≡ []
+  pub rows : rows_listed name new.now.trees ≡ []
   pub others : KeepsOthers (tree_number old.now.schema name ∷ []) old.now.schema
       old.now.trees new.now.trees
   pub sound : IsDatabase new.now

@@ -123,24 +123,24 @@ tree_listed name db =
     number_in (rowid (unwrap_or (find (lists_table name) (db catalog_tree)) [])) - 1
 
 -- the rows of the table of this name
-unfoldable pub rows_of : List ℕ → Trees → List Row
-rows_of name db = db (tree_listed name db)
+unfoldable pub rows_listed : List ℕ → Trees → List Row
+rows_listed name db = db (tree_listed name db)
 
 -- the rows of `meta`
 abbrev pub rows_of_meta : Trees → List Row
-rows_of_meta = rows_of (codes "meta")
+rows_of_meta = rows_listed (codes "meta")
 
 -- the rows of `line`
 abbrev pub rows_of_line : Trees → List Row
-rows_of_line = rows_of (codes "line")
+rows_of_line = rows_listed (codes "line")
 
 -- the rows of `head`
 abbrev pub rows_of_head : Trees → List Row
-rows_of_head = rows_of (codes "head")
+rows_of_head = rows_listed (codes "head")
 
 -- the rows of `cell`
 abbrev pub rows_of_cell : Trees → List Row
-rows_of_cell = rows_of (codes "cell")
+rows_of_cell = rows_listed (codes "cell")
 
 -- the rows that `head` and `cell` are
 abbrev pub stored_cells : Trees → CellLines

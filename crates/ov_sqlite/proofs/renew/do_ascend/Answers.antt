@@ -3,7 +3,7 @@ use Rattle.std.specs.declared.cmp.Ordering.TheVariants.{Less}
 use Rattle.std.specs.List.{AllByRecursion}
 use Rattle.std.proofs.lemmas.List.{take_all}
 use Rattle.ov_specs.specs.schema.SchemaTypes.{name_cmp}
-use Rattle.ov_sqlite.specs.Renewing.{DoAscend}
+use Rattle.ov_sqlite.specs.Renewing.{DoCellsAscend}
 use Rattle.ov_sqlite.proofs.NumberLemmas.{taken_more}
 use Rattle.ov_sqlite.proofs.PlaceLemmas.{ascend_push, below_push}
 use Rattle.ov_sqlite.proofs.renew.do_ascend.Goals as goal
@@ -16,7 +16,7 @@ loop-cell-preserved c =
     let above = subst (λ m. IfSome c.loop-cell.last (λ l. name_cmp l.now m ≡ Less)) c.as_str-name.ensures (c.is_after.ensures c.if-not-is_after.false) in
     let more = taken_more all i x c.loop-cell-test.true c.cell-item.is in
     record {
-      ascend = subst DoAscend (sym more) (ascend_push (take i all) x c.loop-cell.invariant.ascend (c.loop-cell.invariant.below x.column above));
+      ascend = subst DoCellsAscend (sym more) (ascend_push (take i all) x c.loop-cell.invariant.ascend (c.loop-cell.invariant.below x.column above));
       below = λ n low. subst (AllByRecursion (λ c. name_cmp c.column n ≡ Less)) (sym more) (below_push (λ l. l.now) (take i all) x c.loop-cell.last n above (subst (λ m. name_cmp m n ≡ Less) c.as_str-name.ensures low) c.loop-cell.invariant.below);
     }
 
@@ -24,4 +24,4 @@ pub returns : goal.returns
 returns c holds =
     let i = c.loop-cell.cell-index in
     let all = c.args.cells.now in
-    subst DoAscend (take_all i all (omega (arith, c.loop-cell-test.false))) c.loop-cell.invariant.ascend
+    subst DoCellsAscend (take_all i all (omega (arith, c.loop-cell-test.false))) c.loop-cell.invariant.ascend
