@@ -18,17 +18,17 @@ use Rattle.ov_specs.proofs.laws.Truths.{both_hold, left_holds, right_holds}
 use Rattle.ov_db.specs.declared.fault.OpenFault.{OpenFault}
 use Rattle.ov_db.specs.declared.fault.OpenFault.TheVariants.{SchemaDiffers, BadBody, Broken, TypeChanged, NotConvertible, Keeping}
 use Rattle.ov_db.specs.Loading.{IsNotLoaded, IsLoaded}
-use Rattle.ov_db.specs.Stored.{RowBody, named, row_stored}
+use Rattle.ov_db.specs.Stored.{RowBody, named_datum, row_stored}
 
 -- ---- one value
 
 -- a value that was read, under the name of its column
-pub named_loaded : (name : List ℕ) (o : Option Datum) (result : Result Datum OpenFault) → IsLoaded (λ datum. datum) o result → IsLoaded (named name) (option_map (named name) o) result
-named_loaded name o (Ok datum) is = ap (option_map (named name)) is
+pub named_loaded : (name : List ℕ) (o : Option Datum) (result : Result Datum OpenFault) → IsLoaded (λ datum. datum) o result → IsLoaded (named_datum name) (option_map (named_datum name) o) result
+named_loaded name o (Ok datum) is = ap (option_map (named_datum name)) is
 named_loaded name o (Err fault) is = not_loaded fault is
   where
-    not_loaded : (why : OpenFault) → IsNotLoaded o why → IsNotLoaded (option_map (named name) o) why
-    not_loaded BadBody is = ap (option_map (named name)) is
+    not_loaded : (why : OpenFault) → IsNotLoaded o why → IsNotLoaded (option_map (named_datum name) o) why
+    not_loaded BadBody is = ap (option_map (named_datum name)) is
     not_loaded (Keeping cause) is = is
     not_loaded SchemaDiffers is = is
     not_loaded Broken is = is

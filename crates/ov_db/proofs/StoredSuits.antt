@@ -18,7 +18,7 @@ use Rattle.ov_specs.specs.values.Value.{Datum, is_of}
 use Rattle.ov_specs.proofs.laws.Names.{each_entry}
 use Rattle.ov_specs.proofs.laws.OfKinds.{reads_is_of}
 use Rattle.ov_specs.proofs.laws.SuitingColumns.{no_uuids, IsGiven, column_is, SuitsSoFar, none_suits, one_more_suits, Completes, passed, added, StandIn, complete_suits}
-use Rattle.ov_db.specs.Stored.{RowBody, named, row_stored}
+use Rattle.ov_db.specs.Stored.{RowBody, named_datum, row_stored}
 use Rattle.ov_db.proofs.BodyRows.{added_by, columns_added, row_stored-is}
 
 -- ---- one value
@@ -30,7 +30,7 @@ fitting_suits column v datum false of is h = cc
 stored_value_suits : (body : Body) (c : List ℕ × Column) (datum : Datum) → value_held body c ≡ Some (c.0, datum) → is_value_for c.1 datum ≡ true
 stored_value_suits body c datum h = by_member (tree_stored body c.0) (without_name _ h)
   where
-    without_name : (o : Option Datum) → option_map (named c.0) o ≡ Some (c.0, datum) → o ≡ Some datum
+    without_name : (o : Option Datum) → option_map (named_datum c.0) o ≡ Some (c.0, datum) → o ≡ Some datum
     without_name None k = cc
     without_name (Some v) k = ap (λ (value : List ℕ × Datum). Some value.1) (same_Some (c.0, v) (c.0, datum) k)
 
@@ -50,8 +50,8 @@ module _ (table : Table) (body : Body) where
       → ((more : Columns) → SuitsSoFar table more → added_by body cs more ≡ Some after → Completes table cs more after) → Completes table (c ∷ cs) before after
   one_column c cs before after stands suits h next = by (is_own_column c.0) refl h
     where
-      by_value : (o : Option Datum) → is_own_column c.0 ≡ false → value_held body c ≡ option_map (named c.0) o
-          → option_and_then (λ v. added_by body cs (insert before v.0 v.1)) (option_map (named c.0) o) ≡ Some after → Completes table (c ∷ cs) before after
+      by_value : (o : Option Datum) → is_own_column c.0 ≡ false → value_held body c ≡ option_map (named_datum c.0) o
+          → option_and_then (λ v. added_by body cs (insert before v.0 v.1)) (option_map (named_datum c.0) o) ≡ Some after → Completes table (c ∷ cs) before after
       by_value None own is k = cc
       by_value (Some datum) own is k =
           let given : IsGiven table c.0 datum = (c.1, column_is table c.0 c.1 own stands, stored_value_suits body c datum is) in

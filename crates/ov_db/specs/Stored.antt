@@ -56,5 +56,5 @@ ArePutRead [] = Unit {0}
 ArePutRead (change ∷ changes) = IsPutRead change.1 × ArePutRead changes
 
 -- the value with the name of its column
-abbrev pub named : List ℕ → Datum → List ℕ × Datum
-named name datum = (name, datum)
+abbrev pub named_datum : List ℕ → Datum → List ℕ × Datum
+named_datum name datum = (name, datum)

@@ -5,7 +5,7 @@ ghost use Rattle.ov_specs.specs.rows.Cells.{cells_of};
 ghost use Rattle.ov_specs.specs.rows.Held.{OfCells, columns_stored, row_of_body, value_held};
 ghost use Rattle.ov_keeper.specs.Views.{cells_view};
 ghost use Rattle.ov_db.specs.Loading.{IsLoaded, cells_entry};
-ghost use Rattle.ov_db.specs.Stored.{AreCellsRead, named, row_stored};
+ghost use Rattle.ov_db.specs.Stored.{AreCellsRead, named_datum, row_stored};
 
 use crate::cells::{are_cells_of, are_same, body_at, cells_of};
 use crate::fault::OpenFault;
@@ -162,7 +162,7 @@ fn value_in_cell(
     name: &str,
     column: &Column,
 ) -> Result<Datum, OpenFault>
-    ensures { IsLoaded (named name.now) (value_held (OfCells (cells_view cells.now))
+    ensures { IsLoaded (named_datum name.now) (value_held (OfCells (cells_view cells.now))
         (name.now, column.now)) result }
 {
     let Some(body) = body_at(cells, name) else {
