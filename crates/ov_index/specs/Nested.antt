@@ -1,6 +1,6 @@
 -- Indexes nested by their tables, their numbers and their values, and the same as one map by keys.
 use Rattle.std.specs.Prelude.{ℕ, List, [], ◌∷◌, ◌++◌, map, Vec, String, string_bytes}
-use Rattle.std.specs.Coded.{Coded, coded_list}
+use Rattle.std.specs.Coded.{Coded}
 use Rattle.std.specs.FinMap as finite
 use Rattle.std.specs.FinMap.{FinMap, entries}
 use Rattle.std.specs.declared.alloc.Global.{Global}

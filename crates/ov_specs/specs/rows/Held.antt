@@ -1,5 +1,5 @@
 -- The database that stored lines stand for, in either format, if each of them is a row of the schema.
-use Rattle.std.specs.Prelude.{ℕ, List, [], ◌∷◌, ◌&&◌, map, if◌then◌else◌, Bool, Option, Some, None, option_map, option_and_then}
+use Rattle.std.specs.Prelude.{ℕ, List, ◌&&◌, map, if◌then◌else◌, Bool, Option, Some, None, option_map, option_and_then}
 use Rattle.std.specs.Cmp.Lexicographic.{pointwise}
 use Rattle.std.specs.FinMap.{get, entries, from_entries}
 use Rattle.std.specs.Str.{bytes_eq}

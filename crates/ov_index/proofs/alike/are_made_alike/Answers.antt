@@ -3,8 +3,8 @@ use Rattle.std.specs.FinMap.{entries}
 use Rattle.std.specs.List.{list_any}
 use Rattle.ov_index.specs.Changing.{TellsAlike}
 use Rattle.ov_index.specs.Collecting.{is_shared}
-use Rattle.ov_index.specs.IndexKeys.{IndexKey, numbered_cmp}
-use Rattle.ov_index.specs.Indexing.{IdSet, Indexes}
+use Rattle.ov_index.specs.IndexKeys.{numbered_cmp}
+use Rattle.ov_index.specs.Indexing.{Indexes}
 use Rattle.ov_index.specs.Nested.{TableIndexes, key_in_table}
 use Rattle.ov_index.proofs.MadeAlike.{tells_alike}
 use Rattle.ov_index.proofs.Nesting.{any_nested}

@@ -1,6 +1,5 @@
 use Rattle.std.proofs.Common.{List, ◌||◌, Global, sym, ap, ◌∙◌}
 use Rattle.std.specs.Prelude.{Vec}
-use Rattle.std.specs.FinMap.{entries}
 use Rattle.std.specs.List.{list_any}
 use Rattle.ov_specs.specs.values.Value.{Datum}
 use Rattle.ov_index.specs.Collecting.{is_shared}

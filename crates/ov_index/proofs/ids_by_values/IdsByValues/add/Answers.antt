@@ -1,6 +1,6 @@
-use Rattle.std.proofs.Common.{◌≡◌, List, Option, Some, None, not, rules, sym, ap, subst, ◌∙◌}
+use Rattle.std.proofs.Common.{List, Option, Some, not, rules, sym, ap, ◌∙◌}
 use Rattle.std.specs.Prelude.{unwrap_or}
-use Rattle.std.specs.FinMap.{empty, get, contains_key, insert}
+use Rattle.std.specs.FinMap.{empty, contains_key, insert}
 use Rattle.ov_rows.proofs.Maps.{ascends}
 use Rattle.ov_rows.proofs.Nested.{ok_gives, err_gives}
 use Rattle.ov_specs.specs.schema.Schema.{is_some_and}
@@ -8,7 +8,7 @@ use Rattle.ov_specs.specs.values.Value.{Datum}
 use Rattle.ov_index.specs.IndexKeys.{values_cmp}
 use Rattle.ov_index.specs.Indexing.{IdSet, is_indexed, with_id}
 use Rattle.ov_index.specs.KeyOrder.{values_total, values_exact}
-use Rattle.ov_index.specs.Nested.{IdsByValues, by_values}
+use Rattle.ov_index.specs.Nested.{IdsByValues}
 use Rattle.ov_index.proofs.IdMaps.{seen_with_id, seen_same, seen_indexed}
 use Rattle.ov_index.proofs.IndexMaps.{items_of, if_ok}
 use Rattle.ov_index.proofs.SeenKeys.{Puts, by_seen, found_at, puts_of, puts_from}

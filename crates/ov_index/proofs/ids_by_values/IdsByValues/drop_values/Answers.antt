@@ -1,4 +1,4 @@
-use Rattle.std.proofs.Common.{◌≡◌, None, ap, ◌∙◌}
+use Rattle.std.proofs.Common.{None, ap, ◌∙◌}
 use Rattle.std.specs.FinMap.{remove}
 use Rattle.ov_rows.proofs.Maps.{ascends}
 use Rattle.ov_index.specs.IndexKeys.{values_cmp}

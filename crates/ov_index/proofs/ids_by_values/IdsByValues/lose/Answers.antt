@@ -1,4 +1,4 @@
-use Rattle.std.proofs.Common.{◌≡◌, Some, T, rules, ap, sym, subst, ◌∙◌}
+use Rattle.std.proofs.Common.{Some, T, rules, ap, sym, subst, ◌∙◌}
 use Rattle.std.specs.FinMap.{is_sorted, get}
 use Rattle.ov_rows.proofs.Maps.{ascends}
 use Rattle.ov_index.specs.IndexKeys.{values_cmp}

@@ -1,4 +1,4 @@
-use Rattle.std.proofs.Common.{◌≡◌, List, ℕ, Option, Some, not, rules, string_bytes, sym, ap, ◌∙◌}
+use Rattle.std.proofs.Common.{List, ℕ, Option, Some, not, rules, string_bytes, sym, ap, ◌∙◌}
 use Rattle.std.specs.Prelude.{unwrap_or}
 use Rattle.std.specs.FinMap.{empty}
 use Rattle.ov_rows.proofs.Maps.{ascends}

@@ -1,4 +1,4 @@
-use Rattle.std.proofs.Common.{◌≡◌, Some, T, rules, ap, sym, subst, ◌∙◌}
+use Rattle.std.proofs.Common.{Some, T, rules, ap, sym, subst, ◌∙◌}
 use Rattle.std.specs.FinMap.{is_sorted}
 use Rattle.ov_rows.proofs.Maps.{ascends}
 use Rattle.ov_specs.specs.schema.SchemaTypes.{name_cmp}

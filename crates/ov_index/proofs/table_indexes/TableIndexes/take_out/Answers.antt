@@ -1,4 +1,4 @@
-use Rattle.std.proofs.Common.{◌≡◌, Some, T, rules, ap, sym, subst, ◌∙◌}
+use Rattle.std.proofs.Common.{Some, T, rules, ap, sym, subst, ◌∙◌}
 use Rattle.std.specs.Cmp.{nat_cmp_total}
 use Rattle.std.specs.FinMap.{nat_cmp-IsAntisymmetric, is_sorted}
 use Rattle.std.specs.Ordering.{nat_cmp}
