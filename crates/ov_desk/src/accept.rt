@@ -13,9 +13,8 @@ pub(crate) const LOBBY: u64 = 0;
 /// What the accepting worker brings the desk: the links of connections, and last that there are no more.
 pub(crate) type Accepted<S, W> = Brought<Link<S, W>, ()>;
 
-/// Waits until `begin` was called, and for the listener that it is handed. Brings the desk what the
-/// listener gives until that gives no more, and last that there is nothing more. It waits while 64 connections wait for the
-/// desk.
+/// Waits until `begin` was called, and for the listener that it is handed. Brings the desk what the listener gives until that
+/// gives no more, and last that there is nothing more. It waits while 64 connections wait for the desk.
 ///
 /// A listener that gives no more is dropped at once: a client that connects while the open sessions are still served should
 /// be refused, not wait for an answer that never comes.

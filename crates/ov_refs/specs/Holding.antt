@@ -57,11 +57,14 @@ module _ {K : Type 0} {R : K → K → Ordering} where
 
 -- ---- how models store them
 
+-- a set of rows, as a list of their keys
 abbrev pub key_set_code : Coded KeySet
 key_set_code = map.code (coded× (coded_list coded_ℕ) (coded_list coded_ℕ)) coded_unit
 
+-- for each row those that refer to it, as a list
 abbrev pub holders_code : Coded Holders
 holders_code = map.code (coded× (coded_list coded_ℕ) (coded_list coded_ℕ)) key_set_code
 
+-- for each row of a table those that refer to it, as a list
 abbrev pub table_holders_code : Coded TableHolders
 table_holders_code = map.code (coded_list coded_ℕ) key_set_code

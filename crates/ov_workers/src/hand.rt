@@ -50,7 +50,7 @@ impl<S: Drop, W: Drop> Hands<S, W> {
 
 /// Takes what is handed, once it is there. Waits forever if nothing is.
 ///
-/// It looks again and again, yielding after each look, so call it only shortly before something is handed.
+/// It polls, yielding after each look, so call it only shortly before something is handed.
 pub fn take_handed<R: Wait, T: Drop>(rt: &R, hand: &mut Consumer<Option<T>>) -> Option<T>
     ensures hand { SameConsumer hand.old hand.new }
     ensures taken { received hand.new ≡ received hand.old ++ result ∷ [] }

@@ -132,7 +132,7 @@ pub struct Reading<S: Source, L: Ledger> {
 /// joined.
 ///
 /// The thread sleeps until `begin` was called, with either answer. Soon after that it has to be handed a reader or be
-/// dismissed: until then it looks for it again and again.
+/// dismissed: until then it polls.
 pub fn start_reader<'s, E, R, L, G, S>(
     common: Common<'s, R, L, G>,
     scope: &Scope<'s, E>,

@@ -136,7 +136,7 @@ pub struct Writing<W: Sink> {
 /// its last act the thread calls `bell.say_over()`, also if it was handed no writer.
 ///
 /// The thread sleeps until `begin` was called, with either answer. Soon after that it has to be handed a writer or be
-/// dismissed: until then it looks for it again and again.
+/// dismissed: until then it polls.
 pub fn start_writer<'s, E, R, L, G, W>(
     common: Common<'s, R, L, G>,
     scope: &Scope<'s, E>,

@@ -9,7 +9,8 @@ pub data Settles : State → List Outstanding → ℕ → List Attempt → Passe
   -- None is left to try: settling ends.
   ends : (s : State) (number : ℕ) (attempts : List Attempt)
       → Settles s [] number attempts (passed s number attempts false)
-  -- The next one is tried, and the database stays as it was, since it is answered or blocked: on to the one after it.
+  -- The next one is tried, and the database stays as it was, since it is answered or blocked, or its session is closed: on to
+  -- the one after it.
   goes_on : (s : State) (o : Outstanding) (waiting : List Outstanding) (number : ℕ)
       (attempts : List Attempt) (t : Stepped) (p : Passed)
       → tries_again s o (listed number attempts).outcome ≡ Some t → t.state.database ≡ s.database

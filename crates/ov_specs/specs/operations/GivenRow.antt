@@ -23,7 +23,8 @@ may_be_new name column = not (is_own_column name)
 abbrev pub may_be_changed : List ℕ → Column → Bool
 may_be_changed name column = not (is_own_column name) && column.is_mutable
 
--- The value fits its column; a key with two values is a value that fits none (RFC 7047, 5.1).
+-- The value that was read, if it fits its column. A tree that is no value is a syntax error; a key with two values is a value
+-- that fits no column (RFC 7047, 5.1).
 abbrev pub fitting_reading : Column → Reading Datum → Result Datum OpError
 fitting_reading column Unreadable = Err SyntaxError
 fitting_reading column Clashing = Err ConstraintViolation
