@@ -11,8 +11,9 @@ use std::hash::{BuildHasher, RandomState};
 /// The bytes of a page of a new file.
 const PAGE: u64 = 4_096;
 
-/// The fewest pages that stay in memory: 8 MiB, since a small file may grow. It is the kit's own number.
-const LEAST_PAGES: u64 = 2_000;
+/// The fewest pages that stay in memory: 2 MiB, since a small file may grow. With the kit's own number, 2,000, inserts take as
+/// long, and a server with few rows takes 6 MB more.
+const LEAST_PAGES: u64 = 500;
 
 /// The most pages that stay in memory: 16 MiB. More would make a start over 400,000 rows a fifth faster, since the system has the
 /// file in its own cache. An opening takes the memory for all pages at once, and keeps it.
