@@ -15,9 +15,9 @@ const PAGE: u64 = 4_096;
 /// long, and a server with few rows takes 6 MB more.
 const LEAST_PAGES: u64 = 500;
 
-/// The most pages that stay in memory: 16 MiB. More would make a start over 400,000 rows a fifth faster, since the system has the
+/// The most pages that stay in memory: 12 MiB. More would make a start over 400,000 rows a fifth faster, since the system has the
 /// file in its own cache. An opening takes the memory for all pages at once, and keeps it.
-const MOST_PAGES: u64 = 4_096;
+const MOST_PAGES: u64 = 3_072;
 
 /// How many pages a transaction writes before the first of them go to the log. It is the kit's own number.
 const SPILL_PAGES: usize = 2_000;
