@@ -18,3 +18,4 @@ pub mod JoinLemmas
 pub mod ReadLemmas
 pub mod PlaceLemmas
 pub mod InPlaceLemmas
+pub mod UpdatingLemmas
