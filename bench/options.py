@@ -19,12 +19,12 @@ import time
 
 SIZES = (1_000, 10_000, 100_000, 400_000)
 INSERTED_INTO = 100_000
-CACHES = (2_000, 4_096, 8_192, 16_384, 65_536)
+CACHES = (500, 2_000, 3_072, 4_096, 8_192, 16_384, 65_536)
 FRAMES = (1_000, 4_096, 16_384)
 
 # What files are filled with, and what the store has: its largest cache, and its log.
 WIDE = (65_536, 65_536)
-OURS = (4_096, 1_000)
+OURS = (3_072, 1_000)
 
 # How often a start is repeated, and after how many seconds no more.
 STARTS = 3

@@ -38,7 +38,7 @@ pub fn converted_rows(
     ensures err { IfErr result (λ why. why ≡ faults.NotConvertible
         → spec.converted_rows old.now new.now version before.now ≡ Err spec.NotConvertible) }
 {
-    new.accepted();
+    new.shows_accepted();
     has_sixteen_bytes(&version);
     if gets_unfit_default(alloc, old, new, before)? {
         return Err(ConversionFault::NotConvertible);

@@ -71,7 +71,7 @@ impl<K: Keeper + Drop> Live<K> {
         self.sessions.close(session);
         self.watchers.leave(session);
         self.waiting.leave(session);
-        self.outbox.in_order();
+        self.outbox.shows_order();
         self.outbox.leave(session);
         self.outbox.forget(session);
     }

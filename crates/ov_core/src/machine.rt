@@ -452,7 +452,7 @@ impl<K: Keeper + Drop, D: Draws + Drop> Core<K, D> {
             self.close_open(moment, session, Cause::Memory);
             return Stepped::Closed;
         };
-        self.live.sessions.are_few();
+        self.live.sessions.shows_few();
         let (incoming, text) = received.into_parts();
         let draws = self.live.take(
             alloc,

@@ -80,7 +80,7 @@ impl LockTable {
     }
 
     /// States that the queues ascend by the names of their locks, an invariant of every table. Does nothing.
-    pub fn in_order(&self)
+    pub fn shows_order(&self)
         ensures { DoQueuesAscend self.now.0 }
     {
         let _ = &self.queues;

@@ -153,7 +153,7 @@ pub(crate) fn leave(frames: &mut FrameQueues, locks: &mut LockTable, session: u6
     ensures freed { locks.new.1 ≡ [] }
     ensures room { HasPlaces frames.new locks.new.0 }
 {
-    locks.in_order();
+    locks.shows_order();
     locks.leave_all(session);
     tell_freed(frames, locks);
     frames.give_up_places(session);

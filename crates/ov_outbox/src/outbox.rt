@@ -105,7 +105,7 @@ impl Outbox {
         ensures gone { IsOutOfQueues session self.old.queues
             → has_queue session self.new.frames ≡ false }
     {
-        self.locks.in_order();
+        self.locks.shows_order();
         if self.locks.requests(session) == 0 {
             self.frames.drop_queue(session);
         } else {
@@ -120,17 +120,17 @@ impl Outbox {
         ensures gone { IsOutOfQueues session self.old.queues
             → waiting_for session self.old.frames ≡ [] → has_queue session self.new.frames ≡ false }
     {
-        self.locks.in_order();
+        self.locks.shows_order();
         if self.frames.is_empty(session) && self.locks.requests(session) == 0 {
             self.frames.drop_queue(session);
         }
     }
 
     /// States that the queues of the locks ascend by the locks' names, an invariant of every outbox. Does nothing.
-    pub fn in_order(&self)
+    pub fn shows_order(&self)
         ensures { DoQueuesAscend self.now.queues }
     {
-        self.locks.in_order();
+        self.locks.shows_order();
     }
 
     /// Whether the session is the owner of the lock.
@@ -154,7 +154,7 @@ impl Outbox {
             (record { call = lock_call_view call; session = session; id = id.now; name = name.now })
             self.old result self.new }
     {
-        self.locks.in_order();
+        self.locks.shows_order();
         match call {
             LockCall::Lock => {
                 locking::lock(alloc, &mut self.frames, &mut self.locks, session, id, name)

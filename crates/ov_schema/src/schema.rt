@@ -63,7 +63,7 @@ impl Schema {
     }
 
     /// Tells contracts that the schema is what its own tree is read as. It does nothing.
-    pub fn accepted(&self)
+    pub fn shows_accepted(&self)
         ensures { IsAccepted self.now }
     {
         let _tree = &self.tree;

@@ -62,7 +62,7 @@ impl Sessions {
     }
 
     /// States for contracts that no more sessions are open than may be. It is compiled away.
-    pub fn are_few(&self)
+    pub fn shows_few(&self)
         ensures { length self.now.open_sessions ≤ most_sessions }
     {
         let _ = &self.keys;

@@ -18,7 +18,7 @@ use std::io::{self, ErrorKind};
 
 impl<S: Alter> Store<S> {
     /// While the connection is open, an open finds its last commit. The body is empty: it passes the law on.
-    fn found(&self)
+    fn shows_found(&self)
         ensures { IsTrue (state S.Store self.now.connection).is_open
             → (contents : _) → MayFind S.Store self.now.connection contents
             → contents ≡ stored_in (state S.Store self.now.connection).committed.trees }
@@ -26,14 +26,14 @@ impl<S: Alter> Store<S> {
 }
 
 impl<S: Alter + Drop> Store<S> {
-    /// The connection, as `close` returns it, with the law of `found`.
+    /// The connection, as `close` returns it, with the law of `shows_found`.
     fn into_found(self) -> Connection<S>
         ensures same { result ≡ self.connection }
         ensures found { IsTrue (state S.Store self.connection).is_open
             → (contents : _) → MayFind S.Store self.connection contents
             → contents ≡ stored_in (state S.Store self.connection).committed.trees }
     {
-        self.found();
+        self.shows_found();
         self.close()
     }
 }

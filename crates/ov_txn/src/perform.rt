@@ -180,7 +180,7 @@ pub(crate) fn perform<K: Keeper + Drop, O: Owns>(
     ensures whole { IfOk result (WholePerformed db.now.schema db.now.committed) }
 {
     db.shows_kept();
-    db.schema().accepted();
+    db.schema().shows_accepted();
     are_uuids(txn.draws());
     perform_operations(alloc, db, txn, owns, age)
 }

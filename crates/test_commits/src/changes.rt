@@ -29,7 +29,7 @@ fn finished<K: Keeper + Drop>(
         (λ delta. is_whole db.now.schema (applied delta db.now.committed) ≡ true) }
 {
     db.shows_kept();
-    db.schema().accepted();
+    db.schema().shows_accepted();
     match finish(alloc, db.schema(), version, db.links(), db.indexes(), stage) {
         Finished::Changed(delta) => Ok(delta),
         Finished::Refused(error) => Err(Fail::new(error.text())),

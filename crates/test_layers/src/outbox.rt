@@ -213,7 +213,7 @@ struct Sending {
 
 /// Takes an outbox apart and puts it back together.
 fn taken_apart(outbox: Outbox) -> Outbox {
-    outbox.in_order();
+    outbox.shows_order();
     let (frames, locks) = outbox.into_parts();
     Outbox::from_parts(frames, locks)
 }

@@ -19,4 +19,4 @@ pub returns-clause-whole : goal.returns-clause-whole
 returns-clause-whole c =
     let new = c.args.new.now in
     IfOk-weaker c.committed.result _ _ (λ rows h.
-    committed_whole new c.args.before.now c.args.version c.in_ok-rows.rows rows (accepted_is_not_mixed new.tree new c.accepted.ensures.is) h) c.committed.ensures.ok
+    committed_whole new c.args.before.now c.args.version c.in_ok-rows.rows rows (accepted_is_not_mixed new.tree new c.shows_accepted.ensures.is) h) c.committed.ensures.ok

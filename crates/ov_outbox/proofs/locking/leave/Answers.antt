@@ -8,7 +8,7 @@ pub tell_freed-requires : goal.tell_freed-requires
 tell_freed-requires c =
     let session = c.args.session in
     let table = c.args.locks.now in
-    subst (λ (fs : List (ℕ × List ℕ)). HavePlaces fs c.args.frames.now) (sym (left session table c.leave_all.new.self c.leave_all.ensures c.requires.freed)) (freed-places session table.0 c.in_order.ensures c.args.frames.now c.requires.room)
+    subst (λ (fs : List (ℕ × List ℕ)). HavePlaces fs c.args.frames.now) (sym (left session table c.leave_all.new.self c.leave_all.ensures c.requires.freed)) (freed-places session table.0 c.shows_order.ensures c.args.frames.now c.requires.room)
 
 pub returns-clause-posts : goal.returns-clause-posts
 returns-clause-posts c =
@@ -25,4 +25,4 @@ returns-clause-room c =
     let places =
     subst (λ (fs : List (ℕ × List ℕ)). TakesPlaces fs c.args.frames.now c.tell_freed.new.frames) (left session table c.leave_all.new.self c.leave_all.ensures c.requires.freed) c.tell_freed.ensures.places in
     rw (c.tell_freed.ensures.queues ∙ ap (λ (t : TableValue). t.0) c.leave_all.ensures)
-    (leave-room session table.0 c.in_order.ensures c.args.frames.now c.requires.room c.tell_freed.new.frames places c.give_up_places.new.self c.give_up_places.ensures.places)
+    (leave-room session table.0 c.shows_order.ensures c.args.frames.now c.requires.room c.tell_freed.new.frames places c.give_up_places.new.self c.give_up_places.ensures.places)

@@ -19,5 +19,5 @@ returns-clause-suits g c =
 pub returns-clause-whole : goal.returns-clause-whole
 returns-clause-whole g c =
     let db = c.args.db.now in
-    let accepted = subst (λ (schema : Schema). IsAccepted schema) c.schema.ensures c.accepted.ensures in
+    let accepted = subst (λ (schema : Schema). IsAccepted schema) c.schema.ensures c.shows_accepted.ensures in
     IfOk-weaker c.perform_operations.result _ _ (λ p h. performed_whole db.schema db.committed (g.O.Owns.owned c.args.owns.now) c.args.txn.now.draws c.args.age c.args.txn.now.operations p accepted c.shows_kept.ensures.committed_whole h) c.perform_operations.ensures

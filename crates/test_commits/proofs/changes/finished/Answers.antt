@@ -25,4 +25,4 @@ returns-in-Changed-clause-whole g c =
     let is = subst (λ (schema : Schema). committed schema c.args.stage.before c.args.version c.args.stage.now ≡ Ok (applied c.in-Changed.delta c.args.stage.before)) c.schema-2.ensures c.in-Changed.ensures.0 in
     finished_whole db.schema db.committed c.args.version c.args.stage.now c.in-Changed.delta
     (subst (λ (before : Database). committed db.schema before c.args.version c.args.stage.now ≡ Ok (applied c.in-Changed.delta before)) c.requires.before is)
-    (subst IsAccepted c.schema.ensures c.accepted.ensures)
+    (subst IsAccepted c.schema.ensures c.shows_accepted.ensures)

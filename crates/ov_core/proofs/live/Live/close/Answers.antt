@@ -11,7 +11,7 @@ pub returns : goal.returns
 returns g c =
     let old = c.args.self.now in
     let n = c.args.session in
-    let out : IsOutOfQueues n c.leave-3.new.self.queues = λ name. ap (has_requested n name) c.leave-3.ensures.queues ∙ none_left n name old.outbox.queues c.in_order.ensures in
+    let out : IsOutOfQueues n c.leave-3.new.self.queues = λ name. ap (has_requested n name) c.leave-3.ensures.queues ∙ none_left n name old.outbox.queues c.shows_order.ensures in
     let same = c.leave-3.ensures.posts n ∙ (ap (λ (fs : List (List ℕ)). waiting_for n old.outbox.frames ++ fs) (leaving_silent n old.outbox.queues) ∙ append-nil (waiting_for n old.outbox.frames)) in
     rw (c.close.ensures, c.leave-2.ensures) (record {
       same = refl;

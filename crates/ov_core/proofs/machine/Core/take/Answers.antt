@@ -26,7 +26,7 @@ take-draws-requires g c =
         c.into_parts-incoming.ensures.incoming,
         λ id operations is. omega (
           arith,
-          has_room (machine_state live c.args.moment) c.args.session.serial c.args.received id operations (record { of_each = few.of_each; are_open = few.are_open }) (omega (arith, all, c.are_few.ensures)) there is,
+          has_room (machine_state live c.args.moment) c.args.session.serial c.args.received id operations (record { of_each = few.of_each; are_open = few.are_open }) (omega (arith, all, c.shows_few.ensures)) there is,
           ap length c.self.invariant.1,
         ),
       );

@@ -13,4 +13,4 @@ invariant_of-self c = (
 
 pub returns-else-requests-eq0-clause-gone : goal.returns-else-requests-eq0-clause-gone
 returns-else-requests-eq0-clause-gone c = λ out.
-    absurd (c.if-requests-eq0.false (c.requests.ensures ∙ no_requests c.args.session c.self.inside.locks.0 c.in_order.ensures (rw (← c.self.view_is) at out)))
+    absurd (c.if-requests-eq0.false (c.requests.ensures ∙ no_requests c.args.session c.self.inside.locks.0 c.shows_order.ensures (rw (← c.self.view_is) at out)))

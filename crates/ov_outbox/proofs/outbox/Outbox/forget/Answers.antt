@@ -17,6 +17,6 @@ pub returns-else-is_empty-clause-gone : goal.returns-else-is_empty-clause-gone
 returns-else-is_empty-clause-gone c = λ out nothing.
     elim c.else-is_empty.branch [
       | else-is_empty-via-then-is_empty+else-requests-eq0 w ↦
-          absurd (w.if-requests-eq0.false (w.requests.ensures ∙ no_requests c.args.session c.self.inside.locks.0 c.in_order.ensures (rw (← c.self.view_is) at out)))
+          absurd (w.if-requests-eq0.false (w.requests.ensures ∙ no_requests c.args.session c.self.inside.locks.0 c.shows_order.ensures (rw (← c.self.view_is) at out)))
       | else-is_empty-via-else-is_empty w ↦ absurd (false≢true (sym w.if-is_empty.false ∙ (c.is_empty.ensures ∙ eq-eqb _ 0 (ap length (rw (← c.self.view_is) at nothing)))))
     ]
