@@ -11,7 +11,7 @@ use Rattle.ov_outbox.specs.Frames.{waiting_for}
 use Rattle.ov_history.specs.declared.event.Cause.{Cause}
 use Rattle.ov_core.specs.Following.{CoreState}
 use Rattle.ov_lanes.specs.Since.{Since, course_of, and_then_handed}
-use Rattle.ov_desk.specs.LinkStates.{LinkState}
+use Rattle.ov_workers.specs.LinkStates.{LinkState}
 use Rattle.ov_desk.specs.Outcome.{Account, Finish, LinkOutcome}
 use Rattle.ov_desk.specs.Ending.{EndsAfter, finish_for, CourseEnds, LinkEnds}
 use Rattle.ov_lanes.proofs.Unopened.{later_is_unopened}

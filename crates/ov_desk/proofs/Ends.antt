@@ -6,9 +6,9 @@ use Rattle.ov_lanes.specs.Since.{Since, course_of}
 use Rattle.ov_lanes.specs.Lanes.{IsAt, AreNewLanes, LaneFits, SameLane, StayAs}
 use Rattle.ov_lanes.specs.Pairs.{Threewise}
 use Rattle.ov_lanes.specs.declared.lane.Lane.{Lane}
-use Rattle.ov_lanes.specs.declared.link.Link.{Link}
+use Rattle.ov_workers.specs.declared.link.Link.{Link}
 use Rattle.ov_lanes.proofs.PlaceLaws.{some_before}
-use Rattle.ov_desk.specs.LinkStates.{LinkState}
+use Rattle.ov_workers.specs.LinkStates.{LinkState}
 use Rattle.ov_desk.specs.declared.link.End.{End}
 use Rattle.ov_desk.specs.Ending.{CourseEnds, LinkEnds}
 use Rattle.ov_desk.specs.Ends.{EndsLane, EndsSeat, AllEnd}

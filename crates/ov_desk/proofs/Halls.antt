@@ -1,5 +1,5 @@
 -- A hall whose places are taken and left.
-use Rattle.std.proofs.Common.{◌≡◌, inl, inr, ℕ, ◌+◌, ◌<◌, ◌≤◌, List, length, get_or, slice_set, get_or-set_other, refl, sym, ap, subst, ◌∙◌, Bool, Option, Some, None, true, arith}
+use Rattle.std.proofs.Common.{◌≡◌, inl, inr, ℕ, ◌+◌, ◌<◌, ◌≤◌, List, [], ◌∷◌, length, get_or, slice_set, get_or-set_other, refl, sym, ap, subst, ◌∙◌, Bool, Option, Some, None, true, arith}
 use Rattle.std.specs.Prelude.{◌||◌}
 use Rattle.std.proofs.lemmas.Bool.{cases_eq, cases_lt, eq-eqb}
 use Rattle.std.proofs.lemmas.Grind.{get_or-set_at}
@@ -13,13 +13,15 @@ use Rattle.ov_history.specs.declared.event.Stepped.TheVariants as answer
 use Rattle.ov_core.specs.Following.{CoreState}
 use Rattle.ov_core.specs.Stepping.{IsEntered}
 use Rattle.ov_lanes.specs.Lanes.{AreOver, PlacesGoOn, IsAt}
-use Rattle.ov_lanes.specs.declared.desk.Desk.{Desk}
 use Rattle.ov_lanes.specs.declared.lane.Lane.{Lane}
+use Rattle.ov_workers.specs.declared.link.Link.{Link}
 use Rattle.ov_lanes.proofs.PlaceLaws.{freed, none_some, at_below, goes_none, goes_along}
 use Rattle.ov_desk.specs.declared.hall.Hall.{Hall}
-use Rattle.ov_desk.specs.Guests.{TendsHall}
-use Rattle.ov_desk.specs.LinkStates.{LinkState}
-use Rattle.ov_desk.specs.Seats.{AreSeats}
+use Rattle.ov_desk.specs.Guests.{HasPlace, TendsHall}
+use Rattle.ov_workers.specs.LinkStates.{LinkState}
+use Rattle.ov_desk.specs.Lists.{AreAmong, EachFrom}
+use Rattle.ov_desk.specs.Seats.{AreSeats, Seating, WorkAt}
+use Rattle.ov_workers.specs.declared.workers.Workers.{Workers}
 use Rattle.ov_desk.proofs.Guests.{leaves_none, leaves_along}
 use Rattle.ov_desk.specs.Admitting.{Admits}
 use Rattle.ov_desk.specs.declared.admit.Admitted.{Admitted}
@@ -41,24 +43,53 @@ pub admitted_goes : {K D : Type 0} {a b c : CoreState K D} (at : ℕ) (ls ms : L
 admitted_goes {a = a} {c = c} at ls ms i m same is goes =
     subst (λ (l : List (Option Lane)). PlacesGoOn at a ls c l) (sym is) (subst (λ (k : CoreState _ _). PlacesGoOn at a ls k (slice_set ls i (Some m))) (sym same) goes)
 
--- whatever it was, the lanes that were there are there
-pub admitted_stays : {K D : Type 0} (bells parts : ℕ) (old new : Desk K D) (result : Admitted) → Admits bells parts old result new → (at : ℕ) (l : Lane) → IsAt old.lanes.items at l → IsAt new.lanes.items at l
-admitted_stays bells parts old new admitted.Opened a at l is =
-    let place = a.place in
-    elim (cases_eq at place.0) [
-      | inl e ↦ absurd (none_some l (sym place.3 ∙ (ap (λ (k : ℕ). get_or old.lanes.items k None) (sym e) ∙ is)))
-      | inr ne ↦ ap (λ (k : List (Option Lane)). get_or k at None) place.4 ∙ (get_or-set_other old.lanes.items place.0 at (Some place.1) None ne ∙ is)
-    ]
-admitted_stays bells parts old new admitted.Full a at l is = ap (λ (k : List (Option Lane)). get_or k at None) a.1.1 ∙ is
-admitted_stays bells parts old new (admitted.Refused why) a at l is = ap (λ (k : List (Option Lane)). get_or k at None) a.1.1 ∙ is
+module _ {K D S W L : Type 0} (bells parts : ℕ) (link : Link S W) (old new : Seating K D S W L) where
+  -- whatever it was, the lanes that were there are there, with their workers
+  pub admitted_stays : (result : Admitted) → Admits bells parts link old result new → (at : ℕ) (l : Lane) (w : Workers S W L) → IsAt old.desk.lanes.items at l → WorkAt old.workers at w → IsAt new.desk.lanes.items at l × WorkAt new.workers at w
+  admitted_stays admitted.Opened a at l w is works =
+      let place = a.place in
+      elim (cases_eq at place.at) [
+        | inl e ↦ absurd (none_some l (sym place.free ∙ (ap (λ (k : ℕ). get_or old.desk.lanes.items k None) (sym e) ∙ is)))
+        | inr ne ↦ (
+          ap (λ (k : List (Option Lane)). get_or k at None) place.lanes ∙ (get_or-set_other old.desk.lanes.items place.at at (Some place.lane) None ne ∙ is),
+          ap (λ (k : List (Option (Workers S W L))). get_or k at None) place.workers ∙ (get_or-set_other old.workers place.at at (Some place.works) None ne ∙ works),
+        )
+      ]
+  admitted_stays admitted.Full a at l w is works = (ap (λ (k : List (Option Lane)). get_or k at None) a.1.1 ∙ is, ap (λ (k : List (Option (Workers S W L))). get_or k at None) a.1.2 ∙ works)
+  admitted_stays (admitted.Refused why) a at l w is works = (ap (λ (k : List (Option Lane)). get_or k at None) a.1.1 ∙ is, ap (λ (k : List (Option (Workers S W L))). get_or k at None) a.1.2 ∙ works)
 
--- and each session that was opened is open
-pub admitted_open : {K D : Type 0} (bells parts : ℕ) (old new : Desk K D) (result : Admitted) → Admits bells parts old result new → (n : ℕ) → old.core.state.next ≤ n → n < new.core.state.next → is_open new.core.state n ≡ true
-admitted_open bells parts old new admitted.Opened a n high low =
-    let same : n ≡ old.core.state.next = (let next = a.next in omega (arith, high, low, next)) in
-    ap (λ (k : ℕ). is_open new.core.state k) same ∙ a.opened
-admitted_open bells parts old new admitted.Full a n high low = absurd (let next = ap (λ (k : CoreState _ _). k.state.next) a.1.0 in omega (arith, high, low, next))
-admitted_open bells parts old new (admitted.Refused why) a n high low = absurd (let next = ap (λ (k : CoreState _ _). k.state.next) a.1.0 in omega (arith, high, low, next))
+  -- whether the link got a session
+  pub record Seats : Type 0 where
+    pub seated : List (Link S W)
+    pub among : AreAmong seated (link ∷ [])
+    pub next : new.desk.core.state.next ≡ old.desk.core.state.next + length seated
+    pub places : EachFrom (λ n k. HasPlace new.desk.lanes.items new.workers n k) old.desk.core.state.next seated
+
+  not_seated : new.desk.core ≡ old.desk.core → Seats
+  not_seated same = record { seated = []; among = tt; next = (let next = ap (λ (k : CoreState _ _). k.state.next) same in omega (arith, next)); places = tt }
+
+  pub admitted_seats : (result : Admitted) → Admits bells parts link old result new → Seats
+  admitted_seats admitted.Opened a =
+      let place = a.place in
+      record {
+        seated = link ∷ [];
+        among = inl (refl, tt);
+        next = (let next = a.next in omega (arith, next));
+        places = (
+          (
+            place.at,
+            place.lane,
+            place.works,
+            ap (λ (k : List (Option Lane)). get_or k place.at None) place.lanes ∙ get_or-set_at old.desk.lanes.items place.at place.at (Some place.lane) None refl place.within.0,
+            ap (λ (k : List (Option (Workers S W L))). get_or k place.at None) place.workers ∙ get_or-set_at old.workers place.at place.at (Some place.works) None refl place.within.1,
+            place.session,
+            place.handed,
+          ),
+          tt,
+        );
+      }
+  admitted_seats admitted.Full a = not_seated a.1.0
+  admitted_seats (admitted.Refused why) a = not_seated a.1.0
 
 -- ---- a hall that is tended
 
@@ -68,7 +99,7 @@ module _ {K D S W L : Type 0} (ends : S → W → LinkState) where
     core = refl;
     many = refl;
     goes = λ moment. goes_none moment a.desk.core a.desk.lanes.items;
-    leaves = leaves_none ends a.desk.lanes.items;
+    leaves = leaves_none ends a.desk.lanes.items a.workers.items;
     same = (refl, refl);
     seats = seats;
   }
@@ -78,7 +109,7 @@ module _ {K D S W L : Type 0} (ends : S → W → LinkState) where
     core = y.core ∙ x.core;
     many = y.many ∙ x.many;
     goes = λ moment. goes_along moment a.desk.lanes.items b.desk.lanes.items c.desk.lanes.items (x.goes moment) (y.goes moment);
-    leaves = leaves_along ends a.desk.lanes.items b.desk.lanes.items c.desk.lanes.items x.leaves y.leaves;
+    leaves = leaves_along ends a.desk.lanes.items b.desk.lanes.items c.desk.lanes.items a.workers.items b.workers.items c.workers.items x.leaves y.leaves;
     same = (y.same.0 ∙ x.same.0, y.same.1 ∙ x.same.1);
     seats = y.seats;
   }

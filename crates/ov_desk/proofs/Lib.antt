@@ -8,4 +8,6 @@ mod Serving
 mod Halls
 mod Noting
 mod Gone
+mod Listed
+mod Giving
 mod Guests

@@ -6,10 +6,13 @@ use Rattle.ov_lanes.specs.Lanes.{SameLane, PutsAlone, StayAs}
 use Rattle.ov_lanes.specs.declared.lane.Lane.{Lane}
 use Rattle.ov_lanes.proofs.PlaceLaws.{some_after}
 use Rattle.ov_desk.specs.declared.hall.Hall.{Hall}
-use Rattle.ov_desk.specs.LinkStates.{LinkState}
+use Rattle.ov_workers.specs.LinkStates.{LinkState}
+use Rattle.ov_workers.specs.declared.workers.Workers.{Workers}
+use Rattle.ov_desk.specs.Seats.{ArePlaces, AreSeats}
 use Rattle.ov_desk.specs.Guests.{StayOrLeave, TakesNote, TakesNotes, ServesNote, ServesEach, is_of_lobby, session_notes, notes_in}
 use Rattle.ov_desk.specs.Serving.{AreApart, TakesFor, KeepsPlaces, TakesNoted, IsTended}
 use Rattle.ov_desk.proofs.Running.{tended_same, puts_taken, kept_noted}
+use Rattle.ov_desk.proofs.Seats.{works_at}
 
 -- ---- one lane
 
@@ -29,11 +32,13 @@ module _ {S W : Type 0} (ends : S → W → LinkState) where
   notes_none ls at l is = (l, for_self l, inl is)
 
   -- bells were rung, and sessions have left
-  pub notes_left : (ls ms : List (Option Lane)) → StayOrLeave IsTended ends ls ms → TakesNotes ends [] ls ms
-  notes_left ls ms x at l is = elim (x at l is) [
-    | inl (m, there, t) ↦ (m, for_none l m (tended_same l m t), inl there)
-    | inr left ↦ (l, for_self l, inr left)
-  ]
+  pub notes_left : {L : Type 0} (keeps : Bool) (ls ms : List (Option Lane)) (ws vs : List (Option (Workers S W L))) → ArePlaces keeps ls ws → StayOrLeave IsTended ends ls ws ms vs → TakesNotes ends [] ls ms
+  notes_left keeps ls ms ws vs seats x at l is =
+      let w = works_at keeps ls ws at l is seats in
+      elim (x at l w.0 is w.1) [
+        | inl (m, there, works, t) ↦ (m, for_none l m (tended_same l m t), inl there)
+        | inr (link, has, left) ↦ (l, for_self l, inr (link, left))
+      ]
 
   -- what waits was moved
   pub notes_puts : (ls ms : List (Option Lane)) → StayAs PutsAlone ls ms → TakesNotes ends [] ls ms
@@ -53,12 +58,13 @@ module _ {S W : Type 0} (ends : S → W → LinkState) where
 -- ---- a note
 
 module _ {K D S W L : Type 0} (ends : S → W → LinkState) where
-  pub noted_of : (old : Hall K D S W L) (note : ℕ) (taken : Bool) (ms : List (Option Lane)) → TakesNote ends note old taken ms → AreApart old.desk.lanes.items → TakesNotes ends (session_notes old (Some note)) old.desk.lanes.items ms
-  noted_of old note taken ms x apart = by (is_of_lobby old note) x
+  pub noted_of : (old : Hall K D S W L) (note : ℕ) (taken : Bool) (new : Hall K D S W L) → AreSeats old → TakesNote ends note old taken new → AreApart old.desk.lanes.items → TakesNotes ends (session_notes old (Some note)) old.desk.lanes.items new.desk.lanes.items
+  noted_of old note taken new seats x apart = by (is_of_lobby old note) x
     where
-      by : (b : Bool) → MatchBool b (StayOrLeave IsTended ends old.desk.lanes.items ms) (StayAs SameLane old.desk.lanes.items ms × TakesNoted note old.desk.lanes.items taken ms) → TakesNotes ends (cond b [] (note ∷ [])) old.desk.lanes.items ms
-      by true left = notes_left ends old.desk.lanes.items ms left
-      by false turned = notes_kept ends (note ∷ []) old.desk.lanes.items ms (kept_noted note old.desk.lanes.items ms turned.0 taken turned.1 apart)
+      by : (b : Bool) → MatchBool b (StayOrLeave IsTended ends old.desk.lanes.items old.workers.items new.desk.lanes.items new.workers.items) (StayAs SameLane old.desk.lanes.items new.desk.lanes.items × TakesNoted note old.desk.lanes.items taken new.desk.lanes.items)
+          → TakesNotes ends (cond b [] (note ∷ [])) old.desk.lanes.items new.desk.lanes.items
+      by true left = notes_left ends old.keeps old.desk.lanes.items new.desk.lanes.items old.workers.items new.workers.items seats left
+      by false turned = notes_kept ends (note ∷ []) old.desk.lanes.items new.desk.lanes.items (kept_noted note old.desk.lanes.items new.desk.lanes.items turned.0 taken turned.1 apart)
 
   -- one after another
   pub each_more : (notes : List (Option ℕ)) (note : Option ℕ) (a b c : Hall K D S W L) → ServesEach ends notes a b → ServesNote ends note b c → ServesEach ends (notes ++ note ∷ []) a c

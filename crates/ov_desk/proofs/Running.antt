@@ -89,6 +89,9 @@ tended_along ls ms ns x y = record { many = y.many ∙ x.many; each = λ at. one
 pub tended_same_all : (ls ms : List (Option Lane)) → StayAs IsTended ls ms → StayAs SameLane ls ms
 tended_same_all ls ms s = stays_by IsTended SameLane (λ l m t. (tended_same l m t).0) ls ms s
 
+pub puts_same_all : (ls ms : List (Option Lane)) → StayAs PutsAlone ls ms → StayAs SameLane ls ms
+puts_same_all ls ms s = stays_by PutsAlone SameLane (λ l m p. (puts_taken l m p).0) ls ms s
+
 pub kept_same : (notes : List ℕ) (ls ms : List (Option Lane)) → KeepsPlaces notes ls ms → StayAs SameLane ls ms
 kept_same notes ls ms s = stays_by (TakesFor notes) SameLane (λ l m c. c.0) ls ms s
 

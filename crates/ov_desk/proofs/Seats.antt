@@ -9,7 +9,7 @@ use Rattle.rtrb.specs.declared.consumer.Consumer.{Consumer}
 use Rattle.ov_lanes.specs.Lanes.{SameLane, StaysAs, StayAs, IsNewLane, AreNewLanes}
 use Rattle.ov_lanes.specs.Pairs.{Threewise}
 use Rattle.ov_lanes.specs.declared.lane.Lane.{Lane}
-use Rattle.ov_lanes.specs.declared.link.Link.{Link}
+use Rattle.ov_workers.specs.declared.link.Link.{Link}
 use Rattle.ov_workers.specs.Handing.{kept_if}
 use Rattle.ov_workers.specs.declared.workers.Workers.{Workers}
 use Rattle.ov_sessions.specs.declared.session.Session.{Session}
@@ -77,6 +77,14 @@ module _ {S W L : Type 0} (keeps : Bool) where
 
   pub seated_works : (ls : List (Option Lane)) (ws : List (Option (Workers S W L))) (i : ℕ) (l : Lane) → get_or ls i None ≡ Some l → get_or ws i None ≡ None → ArePlaces keeps ls ws → ⊥
   seated_works ls ws i l is none seats = seat_none (get_or ls i None) (get_or ws i None) l is none (seats.each i)
+
+  -- who works at a place that is taken
+  pub works_at : (ls : List (Option Lane)) (ws : List (Option (Workers S W L))) (i : ℕ) (l : Lane) → get_or ls i None ≡ Some l → ArePlaces keeps ls ws → (w : Workers S W L) × (get_or ws i None ≡ Some w)
+  works_at ls ws i l is seats = found (get_or ws i None) refl
+    where
+      found : (v : Option (Workers S W L)) → get_or ws i None ≡ v → (w : Workers S W L) × (v ≡ Some w)
+      found None none = absurd (seated_works ls ws i l is none seats)
+      found (Some w) there = (w, refl)
 
 -- ---- what was started
 

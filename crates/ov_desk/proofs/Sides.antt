@@ -23,7 +23,7 @@ use Rattle.ov_history.specs.Entries.{cause_view, is_written}
 use Rattle.ov_lanes.specs.Courses.{Course}
 use Rattle.ov_lanes.specs.Fitting.{Items, brought, end_cause, is_of_reader, is_by_reader, Took, framed, FitsCourse}
 use Rattle.ov_lanes.proofs.Fitting.{knows_marked}
-use Rattle.ov_desk.specs.LinkStates.{link_state}
+use Rattle.ov_workers.specs.LinkStates.{link_state}
 use Rattle.ov_desk.specs.Outcome.{SuitsReader, SuitsWriter, Finish, LinkOutcome, account_of}
 use Rattle.ov_desk.specs.Ending.{CourseEnds}
 

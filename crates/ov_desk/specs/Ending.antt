@@ -10,7 +10,7 @@ use Rattle.ov_history.specs.Entries.{cause_view, is_written}
 use Rattle.ov_core.specs.Following.{CoreState, Follows}
 use Rattle.ov_lanes.specs.Courses.{Course}
 use Rattle.ov_lanes.specs.Since.{Since}
-use Rattle.ov_desk.specs.LinkStates.{LinkState}
+use Rattle.ov_workers.specs.LinkStates.{LinkState}
 use Rattle.ov_desk.specs.Outcome.{Finish, LinkOutcome, account_of}
 
 -- The history is legal from `start` on, and it closes the session for this cause, once, since a serial is never used again.

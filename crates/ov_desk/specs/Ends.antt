@@ -5,8 +5,8 @@ use Rattle.ov_lanes.specs.Courses.{Course}
 use Rattle.ov_lanes.specs.Lanes.{FitsLane}
 use Rattle.ov_lanes.specs.Since.{Since}
 use Rattle.ov_lanes.specs.declared.lane.Lane.{Lane}
-use Rattle.ov_lanes.specs.declared.link.Link.{Link}
-use Rattle.ov_desk.specs.LinkStates.{LinkState}
+use Rattle.ov_workers.specs.declared.link.Link.{Link}
+use Rattle.ov_workers.specs.LinkStates.{LinkState}
 use Rattle.ov_desk.specs.declared.link.End.{End}
 use Rattle.ov_desk.specs.Ending.{CourseEnds, LinkEnds}
 

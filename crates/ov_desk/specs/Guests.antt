@@ -1,53 +1,63 @@
 -- The connections to which a lobby gave a session.
-use Rattle.std.specs.Prelude.{◌≡◌, ◌⊎◌, ◌<◌, ◌≤◌, ℕ, List, [], ◌∷◌, ◌++◌, vec_len, if◌then◌else◌, ◌==◌, ◌&&◌, Bool, true, false, is_some, option_to_list, MatchBool, Option, Some, None}
+use Rattle.std.specs.Prelude.{◌≡◌, ◌⊎◌, ◌+◌, ℕ, List, [], ◌∷◌, ◌++◌, length, vec_len, if◌then◌else◌, ◌==◌, ◌&&◌, Bool, true, false, option_to_list, MatchBool, Option, Some, None}
 use Rattle.ov_specs.specs.machine.Machine.{is_open}
 use Rattle.ov_core.specs.Following.{CoreState, Timed}
 use Rattle.ov_lanes.specs.Moments.{Tells}
 use Rattle.ov_lanes.specs.Since.{Since}
 use Rattle.ov_lanes.specs.Lanes.{IsAt, SameLane, StayAs, Serves, ServesOn, DeskGoesOn}
-use Rattle.ov_lanes.specs.declared.desk.Desk.{Desk}
 use Rattle.ov_lanes.specs.declared.lane.Lane.{Lane}
-use Rattle.ov_lanes.specs.declared.link.Link.{Link}
+use Rattle.ov_workers.specs.Accepting.{Gives, SameArrivals, arrived, may_come}
+use Rattle.ov_workers.specs.LinkStates.{LinkState}
+use Rattle.ov_workers.specs.declared.link.Link.{Link}
+use Rattle.ov_workers.specs.declared.workers.Workers.{Workers}
 use Rattle.ov_desk.specs.declared.hall.Hall.{Hall}
 use Rattle.ov_desk.specs.declared.link.End.{End}
 use Rattle.ov_desk.specs.Ending.{LinkEnds}
 use Rattle.ov_desk.specs.Ends.{EndsLane}
-use Rattle.ov_desk.specs.LinkStates.{LinkState}
-use Rattle.ov_desk.specs.Seats.{AreSeats}
+use Rattle.ov_desk.specs.Lists.{AreAmong, EachFrom}
+use Rattle.ov_desk.specs.Seats.{AreSeats, HaveLink, WorkAt}
 use Rattle.ov_desk.specs.Serving.{ServesLobby, ServesBy, IsTended, AreApart, TakesFor, TakesNoted}
 
--- The session was served to its end: it was given a link, and this is what remains of the link.
-pub record IsGuest {K D S W : Type 0} {old new : CoreState K D} (ends : S → W → LinkState) (since : Since old new) (n : ℕ) : Type 0 where
-  pub link : Link S W
+-- The session was served to its end over this link, and this is what remains of the link.
+pub record IsGuest {K D S W : Type 0} {old new : CoreState K D} (ends : S → W → LinkState) (since : Since old new) (n : ℕ) (link : Link S W) : Type 0 where
   pub remains : End S W
   pub serial : remains.serial ≡ n
   pub comes_to : LinkEnds since n remains.cause (ends link.reader link.writer) (ends remains.reader remains.writer)
 
--- The lobby served its guests: each session that was opened was given a link and served to its end.
-pub record ServesGuests {K D S W C : Type 0} (ends : S → W → LinkState) (tells : C → ℕ → C → Type 0) (old new : Timed K D C) : Type 0 where
+-- The lobby served its guests. The listener gave links, one after another, over which nothing had gone. Some of them got a
+-- session each, in their order, with the next serials, and were served to their ends. No other session was opened.
+pub record ServesGuests {K D S W C T : Type 0} (ends : S → W → LinkState) (tells : C → ℕ → C → Type 0) (gives : T → Link S W → T → Type 0) (listener : T) (old new : Timed K D C) : Type 0 where
   pub lobby : ServesLobby tells old new
-  pub guests : (n : ℕ) → old.core.state.next ≤ n → n < new.core.state.next → IsGuest ends lobby.since n
+  pub links : List (Link S W)
+  pub last : T
+  pub gave : Gives ends gives listener links last
+  pub guests : List (Link S W)
+  pub among : AreAmong guests links
+  pub many : new.core.state.next ≡ old.core.state.next + length guests
+  pub each : EachFrom (λ n link. IsGuest ends lobby.since n link) old.core.state.next guests
 
 -- ---- on the way; for private clauses
 
--- The session of the lane was over, and its workers were joined: this is what remains of its link.
-pub record HasLeft {S W : Type 0} (ends : S → W → LinkState) (l : Lane) : Type 0 where
-  pub link : Link S W
+-- The session of the lane was over, and its workers, which had this link, were joined: this is what remains of the link.
+pub record HasLeft {S W : Type 0} (ends : S → W → LinkState) (l : Lane) (link : Link S W) : Type 0 where
   pub remains : End S W
   pub ended : l.ended ≡ true
   pub comes_to : EndsLane ends link l remains
 
--- each lane stays at its place as this relation says, or its session has left
-abbrev pub StayOrLeave : {S W : Type 0} → (Lane → Lane → Type 0) → (S → W → LinkState) → List (Option Lane) → List (Option Lane) → Type 0
-StayOrLeave holds ends ls ms = (at : ℕ) (l : Lane) → IsAt ls at l → ((m : Lane) × IsAt ms at m × holds l m) ⊎ HasLeft ends l
+-- Each lane stays at its place as this relation says, with its workers; or its session has left, of the link that they were
+-- handed.
+abbrev pub StayOrLeave : {S W L : Type 0} → (Lane → Lane → Type 0) → (S → W → LinkState) → List (Option Lane) → List (Option (Workers S W L)) → List (Option Lane) → List (Option (Workers S W L)) → Type 0
+StayOrLeave {S} {W} {L} holds ends ls ws ms vs =
+    (at : ℕ) (l : Lane) (w : Workers S W L) → IsAt ls at l → WorkAt ws at w
+    → ((m : Lane) × IsAt ms at m × WorkAt vs at w × holds l m) ⊎ ((link : Link S W) × HaveLink link w × HasLeft ends l link)
 
 -- the lane has the same session
 abbrev pub SameSession : Lane → Lane → Type 0
 SameSession a b = b.session ≡ a.session
 
 -- each session has left
-abbrev pub HaveLeft : {S W : Type 0} → (S → W → LinkState) → List (Option Lane) → Type 0
-HaveLeft ends ls = (at : ℕ) (l : Lane) → IsAt ls at l → HasLeft ends l
+abbrev pub HaveLeft : {S W L : Type 0} → (S → W → LinkState) → List (Option Lane) → List (Option (Workers S W L)) → Type 0
+HaveLeft {S} {W} {L} ends ls ws = (at : ℕ) (l : Lane) (w : Workers S W L) → IsAt ls at l → WorkAt ws at w → (link : Link S W) × HaveLink link w × HasLeft ends l link
 
 -- The machine was left alone. Each lane stays at its place, and the bell of its writer may have been rung; or its session has
 -- left. The workers at a place fit its lane as before.
@@ -55,7 +65,7 @@ pub record TendsHall {K D S W L : Type 0} (ends : S → W → LinkState) (old ne
   pub core : new.desk.core ≡ old.desk.core
   pub many : vec_len new.desk.lanes ≡ vec_len old.desk.lanes
   pub goes : (moment : ℕ) → DeskGoesOn moment old.desk new.desk
-  pub leaves : StayOrLeave IsTended ends old.desk.lanes.items new.desk.lanes.items
+  pub leaves : StayOrLeave IsTended ends old.desk.lanes.items old.workers.items new.desk.lanes.items new.workers.items
   pub same : (new.keeps ≡ old.keeps) × (new.accepted ≡ old.accepted)
   pub seats : AreSeats new
 
@@ -63,41 +73,46 @@ pub record TendsHall {K D S W L : Type 0} (ends : S → W → LinkState) (old ne
 abbrev pub IsKept : {K D S W L : Type 0} → Hall K D S W L → Hall K D S W L → Type 0
 IsKept old new = old.keeps ≡ true → StayAs IsTended old.desk.lanes.items new.desk.lanes.items × (new.workers ≡ old.workers)
 
--- the session is served at one of the places
-abbrev pub HasPlace : List (Option Lane) → ℕ → Type 0
-HasPlace places n = (at : ℕ) × (l : Lane) × IsAt places at l × (l.session.serial ≡ n)
+-- the session is served at one of the places, whose workers were handed the link
+abbrev pub HasPlace : {S W L : Type 0} → List (Option Lane) → List (Option (Workers S W L)) → ℕ → Link S W → Type 0
+HasPlace {S} {W} {L} ls ws n link =
+    (at : ℕ) × (l : Lane) × (w : Workers S W L) × IsAt ls at l × WorkAt ws at w × (l.session.serial ≡ n) × HaveLink link w
 
--- Each session that was opened since a core was `start` has a place, or it was a guest and is closed.
-abbrev pub AreHosted : {K D S W : Type 0} {start core : CoreState K D} {places : List (Option Lane)} → (S → W → LinkState) → Serves start core places → Type 0
-AreHosted {start = start} {core = core} {places = places} ends serves =
-    (n : ℕ) → start.state.next ≤ n → n < core.state.next
-    → HasPlace places n ⊎ (IsGuest ends serves.since n × (is_open core.state n ≡ false))
+-- Some of the links that came got a session each, in their order, with the serials that were next when a core was `start`. Each
+-- of these sessions has a place, or it was a guest and is closed. No other session was opened.
+pub record AreHosted {K D S W L : Type 0} {start : CoreState K D} (ends : S → W → LinkState) (hall : Hall K D S W L) (serves : Serves start hall.desk.core hall.desk.lanes.items) : Type 0 where
+  pub guests : List (Link S W)
+  pub among : AreAmong guests (arrived hall.accepted)
+  pub many : hall.desk.core.state.next ≡ start.state.next + length guests
+  pub each : EachFrom (λ n link. HasPlace hall.desk.lanes.items hall.workers.items n link ⊎ (IsGuest ends serves.since n link × (is_open hall.desk.core.state n ≡ false))) start.state.next guests
 
--- Whatever was done since a core was `start`, the desk goes on, and sessions that were hosted before are.
-abbrev pub HostsOn : {K D S W : Type 0} → (S → W → LinkState) → ℕ → Desk K D → Desk K D → Type 0
-HostsOn {K} {D} ends moment old new =
-    (start : CoreState K D) (serves : Serves start old.core old.lanes.items)
-    → (on : ServesOn moment serves new.core new.lanes.items) × (AreHosted ends serves → AreHosted ends on.after)
+-- Whatever was done since a core was `start`, the desk goes on, and sessions that were hosted before are. Links come through
+-- the same ring.
+pub record HostsOn {K D S W L : Type 0} (ends : S → W → LinkState) (moment : ℕ) (old new : Hall K D S W L) : Type 0 where
+  pub ring : SameArrivals old.accepted new.accepted
+  pub hosts : (start : CoreState K D) (serves : Serves start old.desk.core old.desk.lanes.items)
+      → (on : ServesOn moment serves new.desk.core new.desk.lanes.items) × (AreHosted ends old serves → AreHosted ends new on.after)
 
 -- so it is by the clock
-pub record HostsBy {K D S W C : Type 0} (ends : S → W → LinkState) (tells : C → ℕ → C → Type 0) (old : Desk K D) (clock : C) (new : Desk K D) (clock' : C) : Type 0 where
+pub record HostsBy {K D S W L C : Type 0} (ends : S → W → LinkState) (tells : C → ℕ → C → Type 0) (old : Hall K D S W L) (clock : C) (new : Hall K D S W L) (clock' : C) : Type 0 where
   pub moments : List ℕ
   pub reported : Tells tells clock moments clock'
-  pub hosts : (start : CoreState K D) (serves : Serves start old.core old.lanes.items)
-      → (by : ServesBy moments serves new) × (AreHosted ends serves → AreHosted ends by.after)
+  pub ring : SameArrivals old.accepted new.accepted
+  pub hosts : (start : CoreState K D) (serves : Serves start old.desk.core old.desk.lanes.items)
+      → (by : ServesBy moments serves new.desk) × (AreHosted ends old serves → AreHosted ends new by.after)
 
 -- ---- notes; for private clauses
 
 -- the note is the accepting worker's, from which more links may come
 abbrev pub is_of_lobby : {K D S W L : Type 0} → Hall K D S W L → ℕ → Bool
-is_of_lobby hall note = note == 0 && is_some hall.accepted
+is_of_lobby hall note = note == 0 && may_come hall.accepted
 
 -- For a note of the accepting worker no item was taken from any session's ring, and sessions may have left. For another note an
 -- item of its session was taken; if not, it has no place, and nothing is changed.
-abbrev pub TakesNote : {K D S W L : Type 0} → (S → W → LinkState) → ℕ → Hall K D S W L → Bool → List (Option Lane) → Type 0
-TakesNote ends note old taken ms = MatchBool (is_of_lobby old note)
-    (StayOrLeave IsTended ends old.desk.lanes.items ms)
-    (StayAs SameLane old.desk.lanes.items ms × TakesNoted note old.desk.lanes.items taken ms)
+abbrev pub TakesNote : {K D S W L : Type 0} → (S → W → LinkState) → ℕ → Hall K D S W L → Bool → Hall K D S W L → Type 0
+TakesNote ends note old taken new = MatchBool (is_of_lobby old note)
+    (StayOrLeave IsTended ends old.desk.lanes.items old.workers.items new.desk.lanes.items new.workers.items)
+    (StayAs SameLane old.desk.lanes.items new.desk.lanes.items × TakesNoted note old.desk.lanes.items taken new.desk.lanes.items)
 
 -- the note, if there is one and it isn't the accepting worker's
 abbrev pub session_notes : {K D S W L : Type 0} → Hall K D S W L → Option ℕ → List ℕ
@@ -106,7 +121,7 @@ session_notes hall (Some note) = if is_of_lobby hall note then [] else note ∷ 
 
 -- From the ring of each session as many items were taken as notes of its serial. Then it still has its place, or it has left.
 abbrev pub TakesNotes : {S W : Type 0} → (S → W → LinkState) → List ℕ → List (Option Lane) → List (Option Lane) → Type 0
-TakesNotes ends notes ls ms = (at : ℕ) (l : Lane) → IsAt ls at l → (m : Lane) × TakesFor notes l m × (IsAt ms at m ⊎ HasLeft ends m)
+TakesNotes {S} {W} ends notes ls ms = (at : ℕ) (l : Lane) → IsAt ls at l → (m : Lane) × TakesFor notes l m × (IsAt ms at m ⊎ ((link : Link S W) × HasLeft ends m link))
 
 -- a hall was served with this note, or with none
 abbrev pub ServesNote : {K D S W L : Type 0} → (S → W → LinkState) → Option ℕ → Hall K D S W L → Hall K D S W L → Type 0

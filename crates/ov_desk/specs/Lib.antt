@@ -1,4 +1,4 @@
-pub mod LinkStates
+pub mod Lists
 pub mod Time
 pub mod Outcome
 pub mod Ending

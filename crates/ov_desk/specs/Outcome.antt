@@ -10,7 +10,7 @@ use Rattle.ov_ends.specs.Ends.{one_more, KeepsInput, GivesWritten}
 use Rattle.ov_ends.specs.Writing.{WritesOf}
 use Rattle.ov_lanes.specs.Courses.{Course}
 use Rattle.ov_lanes.specs.Fitting.{is_of_reader, most_frames}
-use Rattle.ov_desk.specs.LinkStates.{LinkState}
+use Rattle.ov_workers.specs.LinkStates.{LinkState}
 
 -- what the reader reports when its end closes the session: the input ended and its stream is whole; or a read failed; or its
 -- stream is damaged

@@ -1,8 +1,9 @@
 -- Who works for the session at a place.
 use Rattle.std.specs.Prelude.{◌≡◌, ℕ, ◌+◌, List, [], ◌∷◌, length, slice_index_or, Bool, true, Option, Some, None}
 use Rattle.rtrb.specs.Ring.{sent, received, known_free, IsPair}
+use Rattle.ov_lanes.specs.declared.desk.Desk.{Desk}
 use Rattle.ov_lanes.specs.declared.lane.Lane.{Lane}
-use Rattle.ov_lanes.specs.declared.link.Link.{Link}
+use Rattle.ov_workers.specs.declared.link.Link.{Link}
 use Rattle.ov_workers.specs.declared.workers.Workers.{Workers}
 use Rattle.ov_desk.specs.declared.hall.Hall.{Hall}
 use Rattle.ov_desk.specs.declared.start.Started.{Started}
@@ -37,6 +38,19 @@ pub record ArePlaces {S W L : Type 0} (keeps : Bool) (ls : List (Option Lane)) (
 -- and at each of a hall
 abbrev pub AreSeats : {K D S W L : Type 0} → Hall K D S W L → Type 0
 AreSeats hall = ArePlaces hall.keeps hall.desk.lanes.items hall.workers.items
+
+-- what a hall has at its places: the machine with the lanes, and the workers
+pub record Seating (K D S W L : Type 0) : Type 0 where
+  pub desk : Desk K D
+  pub workers : List (Option (Workers S W L))
+
+-- those of a hall
+abbrev pub seating : {K D S W L : Type 0} → Hall K D S W L → Seating K D S W L
+seating hall = record { desk = hall.desk; workers = hall.workers.items }
+
+-- they work at this place
+abbrev pub WorkAt : {S W L : Type 0} → List (Option (Workers S W L)) → ℕ → Workers S W L → Type 0
+WorkAt places at w = slice_index_or places at None ≡ Some w
 
 -- the workers of a session with this serial were started: nothing went through its rings
 pub record IsStarted {S W L : Type 0} (keeps : Bool) (serial : ℕ) (s : Started S W L) : Type 0 where

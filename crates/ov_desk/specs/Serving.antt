@@ -12,13 +12,13 @@ use Rattle.ov_lanes.specs.Places.{has_places}
 use Rattle.ov_lanes.specs.Opening.{ClosesAgain}
 use Rattle.ov_lanes.specs.declared.desk.Desk.{Desk}
 use Rattle.ov_lanes.specs.declared.lane.Lane.{Lane}
-use Rattle.ov_lanes.specs.declared.link.Link.{Link}
+use Rattle.ov_workers.specs.declared.link.Link.{Link}
 use Rattle.ov_lanes.specs.declared.fault.ServeFault.{ServeFault}
 use Rattle.ov_lanes.specs.declared.fault.ServeFault.TheVariants as fault
 use Rattle.ov_desk.specs.declared.hall.Hall.{Hall}
 use Rattle.ov_desk.specs.declared.link.End.{End}
 use Rattle.ov_desk.specs.Ends.{AllEnd}
-use Rattle.ov_desk.specs.LinkStates.{LinkState}
+use Rattle.ov_workers.specs.LinkStates.{LinkState}
 use Rattle.ov_desk.specs.Time.{TakesTime}
 
 -- ---- links

@@ -1,17 +1,17 @@
 ghost use Rattle.std.specs.Prelude.{◌≡◌, ◌<◌, ℕ, None, vec_len, slice_index_or};
 ghost use Rattle.ov_lanes.specs.Lanes.{DeskGoesOn};
 ghost use Rattle.ov_desk.specs.Admitting.{Admits};
-ghost use Rattle.ov_desk.specs.Seats.{AreSeats, IsStarted};
+ghost use Rattle.ov_desk.specs.Seats.{AreSeats, IsStarted, seating};
 
 use crate::hall::Hall;
 use crate::start::{Started, start};
 use ov_core::StepFault;
 use ov_ends::{Sink, Source};
 use ov_keeper::Keeper;
-use ov_lanes::{Lane, Link, ServeFault, free_place};
+use ov_lanes::{Lane, ServeFault, free_place};
 use ov_order::Bell;
 use ov_requests::Draws;
-use ov_workers::{Common, Gate};
+use ov_workers::{Common, Gate, Link};
 use std::sync::Wait;
 use std::sync::ledger::Ledger;
 use std::thread::{Scope, Threads};
@@ -64,7 +64,8 @@ where
     requires started { IsStarted hall.old.keeps hall.old.desk.core.state.next started }
     ensures goes { (moment : ℕ) → DeskGoesOn moment hall.old.desk hall.new.desk }
     ensures answer { (bells parts : ℕ)
-        → Admits bells parts hall.old.desk result hall.new.desk }
+        → Admits bells parts link (seating hall.old) result (seating hall.new) }
+    ensures accepted { hall.new.accepted ≡ hall.old.accepted }
     ensures seats { AreSeats hall.new }
     ensures honest { K.is_honest hall.new.desk.core.keeper → K.is_honest hall.old.desk.core.keeper }
 {
@@ -102,8 +103,9 @@ where
     W: Sink + Send + Drop + 's,
     requires seats { AreSeats hall.old }
     ensures goes { (moment : ℕ) → DeskGoesOn moment hall.old.desk hall.new.desk }
-    ensures answer { Admits (vec_len bells.now) hall.old.parts.left hall.old.desk result
-        hall.new.desk }
+    ensures answer { Admits (vec_len bells.now) hall.old.parts.left link (seating hall.old) result
+        (seating hall.new) }
+    ensures accepted { hall.new.accepted ≡ hall.old.accepted }
     ensures seats { AreSeats hall.new }
     ensures honest { K.is_honest hall.new.desk.core.keeper → K.is_honest hall.old.desk.core.keeper }
 {

@@ -4,11 +4,11 @@ ghost use Rattle.ov_history.specs.declared.event.Cause.TheVariants.{WriteFault, 
 ghost use Rattle.ov_lanes.specs.Courses.{Course};
 ghost use Rattle.ov_lanes.specs.Lanes.{AreOver, FitsLane};
 ghost use Rattle.ov_lanes.specs.Pairs.{Threewise};
-ghost use Rattle.ov_lanes.specs.declared.link.Link.{Link as SpecLink};
+ghost use Rattle.ov_workers.specs.declared.link.Link.{Link as SpecLink};
 ghost use Rattle.ov_workers.specs.Handing.{kept_if};
 ghost use Rattle.ov_desk.specs.Ending.{CourseEnds};
 ghost use Rattle.ov_desk.specs.Ends.{EndsLane, EndsSeat};
-ghost use Rattle.ov_desk.specs.LinkStates.{ends_of};
+ghost use Rattle.ov_workers.specs.LinkStates.{ends_of};
 ghost use Rattle.ov_desk.specs.Seats.{AreWorkersOf, HaveLink, IsSeatOf};
 
 use crate::link::End;

@@ -1,13 +1,12 @@
 ghost use Rattle.std.specs.Prelude.{◌≡◌, ◌<◌, None, Some, true, slice_index_or, slice_set, vec_len};
 ghost use Rattle.ov_lanes.specs.Lanes.{AreOver, IsAt, StayAs};
 ghost use Rattle.ov_lanes.specs.declared.lane.Lane.{Lane as SpecLane};
-ghost use Rattle.ov_lanes.specs.declared.link.Link.{Link as SpecLink};
+ghost use Rattle.ov_workers.specs.declared.link.Link.{Link as SpecLink};
 ghost use Rattle.ov_desk.specs.Guests.{HaveLeft, IsKept, TendsHall};
-ghost use Rattle.ov_desk.specs.LinkStates.{ends_of};
+ghost use Rattle.ov_workers.specs.LinkStates.{ends_of};
 ghost use Rattle.ov_desk.specs.Seats.{AreSeats, AreWorkersOf, HaveLink};
 ghost use Rattle.ov_desk.specs.Serving.{IsTended};
 
-use crate::accept::Accepted;
 use crate::finish::join_workers;
 use crate::parts::Parts;
 use ov_ends::{Sink, Source};
@@ -15,8 +14,7 @@ use ov_keeper::Keeper;
 use ov_lanes::{Desk, Lane};
 use ov_order::Bell;
 use ov_requests::Draws;
-use ov_workers::Workers;
-use rtrb::Consumer;
+use ov_workers::{Arrivals, Workers};
 use std::sync::Wait;
 use std::sync::ledger::Ledger;
 use std::thread::Threads;
@@ -28,8 +26,8 @@ pub(crate) struct Hall<K: Keeper, D: Draws, S: Source, W: Sink, L: Ledger> {
     pub desk: Desk<K, D>,
     /// The workers; None where no session is served.
     pub workers: Vec<Option<Workers<S, W, L>>>,
-    /// What the accepting worker brings; None if no more links come.
-    pub accepted: Option<Consumer<Accepted<S, W>>>,
+    /// What the accepting worker brings; None if there is none.
+    pub accepted: Option<Arrivals<S, W>>,
     /// The parts for further workers that note.
     pub parts: Parts<L>,
     /// Whether each session keeps its place, and its workers the ends of their link, until all sessions are over.
@@ -88,8 +86,10 @@ where
         requires link { (k : SpecLink S W) × HaveLink k workers }
         ensures lanes { self.new.desk.lanes.items
             ≡ slice_set self.old.desk.lanes.items at (Some lane) }
+        ensures workers { self.new.workers.items
+            ≡ slice_set self.old.workers.items at (Some workers) }
         ensures same { (self.new.desk.core ≡ self.old.desk.core)
-            × (self.new.keeps ≡ self.old.keeps) }
+            × (self.new.keeps ≡ self.old.keeps) × (self.new.accepted ≡ self.old.accepted) }
         ensures seats { AreSeats self.new }
     {
         self.desk.lanes[at] = Some(lane);
@@ -147,8 +147,10 @@ where
     pub fn leave_all<R: Threads + Wait>(&mut self, rt: &R)
         requires seats { AreSeats self.old }
         requires over { AreOver self.old.desk.lanes.items }
-        ensures left { HaveLeft (ends_of S.Source W.Sink) self.old.desk.lanes.items }
-        ensures core { self.new.desk.core ≡ self.old.desk.core }
+        ensures left { HaveLeft (ends_of S.Source W.Sink) self.old.desk.lanes.items
+            self.old.workers.items }
+        ensures same { (self.new.desk.core ≡ self.old.desk.core)
+            × (self.new.accepted ≡ self.old.accepted) }
     {
         for place in 0..self.desk.lanes.len() {
             self.leave(rt, place);

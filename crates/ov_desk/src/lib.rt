@@ -3,7 +3,6 @@
 //! accepts connections.
 #![tactic(auto)]
 
-mod accept;
 mod admit;
 mod fault;
 mod finish;

@@ -1,7 +1,8 @@
 use ov_core::Cause;
 use ov_keeper::Keeper;
-use ov_lanes::{Desk, Link, ServeFault};
+use ov_lanes::{Desk, ServeFault};
 use ov_requests::Draws;
+use ov_workers::Link;
 use std::collections::VecDeque;
 
 /// What remains of a link after its session was closed and its workers have ended.

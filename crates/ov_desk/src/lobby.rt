@@ -1,24 +1,25 @@
-ghost use Rattle.std.specs.Prelude.{◌≡◌, ◌-◌, ◌^◌, [], IfOk, IfErr};
+ghost use Rattle.std.specs.Prelude.{◌≡◌, ◌-◌, ◌^◌, [], Some, IfOk, IfErr};
+ghost use Rattle.rtrb.specs.Ring.{sent, IsPair};
 ghost use Rattle.ov_lanes.specs.Lanes.{AreFree, Serves};
 ghost use Rattle.ov_lanes.specs.declared.fault.ServeFault.TheVariants as fault;
 ghost use Rattle.ov_desk.specs.Answering.{AnswersLobby, to_serve};
-ghost use Rattle.ov_desk.specs.LinkStates.{ends_of};
+ghost use Rattle.ov_workers.specs.LinkStates.{ends_of};
+ghost use Rattle.ov_workers.specs.declared.arrivals.Arrivals.{Arrivals as SpecArrivals};
 ghost use Rattle.ov_desk.specs.Opening.{AreEmpty};
 ghost use Rattle.ov_desk.specs.Seats.{AreSeats};
 
-use crate::accept::{Accepted, LOBBY, accept_worker};
 use crate::fault::RefusedLobby;
 use crate::hall::Hall;
 use crate::links::{SHARES, all_bells};
 use crate::parts::Parts;
-use crate::run::run;
+use crate::run::{LOBBY, run};
 use ov_core::Core;
 use ov_ends::{Clock, Sink, Source};
 use ov_keeper::Keeper;
-use ov_lanes::{Desk, Lane, Listen, ServeFault};
+use ov_lanes::{Desk, Lane, ServeFault};
 use ov_order::{Bell, Noter, Order, Taken, inbound_ring};
 use ov_requests::Draws;
-use ov_workers::{Common, Gate, HandRing, Workers};
+use ov_workers::{Accepted, Arrivals, Common, Gate, HandRing, Listen, Workers, start_accepting};
 use rtrb::{Consumer, Producer};
 use std::alloc::{AllocError, Global};
 use std::marker::Brand;
@@ -67,7 +68,10 @@ fn take_room<S: Source + Drop, W: Sink + Drop, L: Ledger, T: Drop>(
     book: Book<L>,
 ) -> Result<Room<S, W, L, T>, AllocError>
     requires { book.total ≡ 0 }
-    ensures { IfOk result (λ room. AreEmpty 64 room.lanes.items × AreEmpty 64 room.workers.items) }
+    ensures places { IfOk result
+        (λ room. AreEmpty 64 room.lanes.items × AreEmpty 64 room.workers.items) }
+    ensures ring { IfOk result
+        (λ room. IsPair room.ring room.accepted × (sent room.ring ≡ [])) }
 {
     let order = Order::new(alloc, book)?;
     let bells = all_bells(alloc, PLACES)?;
@@ -130,7 +134,9 @@ where
     C: Clock,
     requires free { AreFree hall.desk.lanes.items }
     requires seats { AreSeats hall }
-    ensures answers { AnswersLobby (ends_of S.Source W.Sink) C.tells K.is_honest
+    requires ring { (a : SpecArrivals S W) × (hall.accepted ≡ Some a) × IsPair door.ring a.ring
+        × (sent door.ring ≡ []) }
+    ensures answers { AnswersLobby (ends_of S.Source W.Sink) C.tells T.gives K.is_honest
         (to_serve hall.desk.core clock.old door.listener) result clock.new }
     ensures threads { IfErr result (λ refused. refused.fault ≡ fault.Threads) }
 {
@@ -141,24 +147,26 @@ where
         noter,
     } = door;
     let mut hall = hall;
-    let from_desk = hand.from_desk;
-    let mut to_worker = hand.to_worker;
     shows_none_served(&hall.desk);
-    let job = move || accept_worker(common, from_desk, ring, noter);
-    let Ok(accepting) = scope.spawn(job) else {
+    let Some(accepting) = start_accepting(common, scope, hand, ring, noter) else {
         return Err(RefusedLobby {
             fault: ServeFault::Threads,
             desk: hall.desk,
             listener,
         });
     };
+    let mut accepting = accepting;
     common.order.lock(common.rt).begin(true);
     common.order.wake();
-    to_worker.push_reserved(Some(listener));
+    accepting.hand(listener);
     run(common, scope, bells, &mut hall, &mut Taken::new(), clock);
     hall.leave_all(common.rt);
-    accepting.join(common.rt);
-    Ok(hall.desk)
+    let Hall { desk, accepted, .. } = hall;
+    let Some(arrivals) = accepted else {
+        unreachable!()
+    };
+    accepting.join(common.rt, arrivals);
+    Ok(desk)
 }
 
 /// The same, in a scope of threads. The scope gives the clock back, so that its contract can name it.
@@ -181,7 +189,9 @@ where
     C: Clock,
     requires free { AreFree hall.desk.lanes.items }
     requires seats { AreSeats hall }
-    ensures answers { AnswersLobby (ends_of S.Source W.Sink) C.tells K.is_honest
+    requires ring { (a : SpecArrivals S W) × (hall.accepted ≡ Some a) × IsPair door.ring a.ring
+        × (sent door.ring ≡ []) }
+    ensures answers { AnswersLobby (ends_of S.Source W.Sink) C.tells T.gives K.is_honest
         (to_serve hall.desk.core clock.old door.listener) result clock.new }
     ensures threads { IfErr result (λ refused. refused.fault ≡ fault.Threads) }
 {
@@ -191,7 +201,9 @@ where
         move |scope| -> (Result<Desk<K, D>, RefusedLobby<K, D, T>>, &mut C)
             requires free { AreFree hall.desk.lanes.items }
             requires seats { AreSeats hall }
-            ensures answers { AnswersLobby (ends_of S.Source W.Sink) C.tells K.is_honest
+            requires ring { (a : SpecArrivals S W) × (hall.accepted ≡ Some a)
+                × IsPair door.ring a.ring × (sent door.ring ≡ []) }
+            ensures answers { AnswersLobby (ends_of S.Source W.Sink) C.tells T.gives K.is_honest
                 (to_serve hall.desk.core clock.entry.now door.listener) result.0 result.1.now }
             ensures threads { IfErr result.0 (λ refused. refused.fault ≡ fault.Threads) }
             ensures same_clock { result.1.ghost_name ≡ clock.entry.ghost_name }
@@ -225,7 +237,7 @@ where
     C: Clock,
     requires name { blank.name ≡ L.name }
     requires parts { (blank.parts ≡ L.parts) × (blank.parts ≡ 2 ^ 64 - 1) }
-    ensures { AnswersLobby (ends_of S.Source W.Sink) C.tells K.is_honest
+    ensures { AnswersLobby (ends_of S.Source W.Sink) C.tells T.gives K.is_honest
         (to_serve core clock.old listener) result clock.new }
 {
     let (book, all) = blank.open::<L>();
@@ -244,7 +256,10 @@ where
             lanes: room.lanes,
         },
         workers: room.workers,
-        accepted: Some(room.accepted),
+        accepted: Some(Arrivals {
+            ring: room.accepted,
+            ended: false,
+        }),
         parts: Parts::of(all, SHARES - 2),
         keeps: false,
     };
@@ -264,7 +279,8 @@ where
 }
 
 /// Serves every connection that the listener accepts as a session, up to 64 at a time, until the listener gives no more and
-/// all sessions are over (RFC 7047, 4). Then the desk comes back.
+/// all sessions are over (RFC 7047, 4). Then the desk comes back. The sessions get the next serials, in the order of their
+/// connections.
 ///
 /// A session ends as in `serve_links`: when its reader's input ends, a read fails or its stream is damaged, when more than
 /// 1,024 frames wait for its writer, or when an allocation for its request fails. What was read of it, what was written to it
@@ -299,7 +315,7 @@ where
     W: Sink + Send + Drop,
     T: Listen<S, W> + Send + Drop,
     C: Clock,
-    ensures { AnswersLobby (ends_of S.Source W.Sink) C.tells K.is_honest
+    ensures { AnswersLobby (ends_of S.Source W.Sink) C.tells T.gives K.is_honest
         (to_serve desk.core clock.old listener) result clock.new }
 {
     serve_as::<R, K, D, Brand, G, S, W, T, C>(

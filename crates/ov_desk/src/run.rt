@@ -2,20 +2,18 @@ ghost use Rattle.std.specs.Prelude.{◌≡◌, ◌++◌, ◌∷◌, [], ℕ, Lis
 ghost use Rattle.ov_lanes.specs.Lanes.{AreOver, DeskGoesOn, IsSteady, SameLane, StayAs};
 ghost use Rattle.ov_desk.specs.Guests.{HostsBy, HostsOn, ServesEach, ServesNote, StayOrLeave, TakesNote};
 ghost use Rattle.ov_desk.specs.Guests.{notes_in};
-ghost use Rattle.ov_desk.specs.LinkStates.{ends_of};
+ghost use Rattle.ov_workers.specs.LinkStates.{ends_of};
 ghost use Rattle.ov_desk.specs.Seats.{AreSeats};
 ghost use Rattle.ov_desk.specs.Serving.{IsTended, KeepsHall, TakesNoted};
 
-use crate::accept::LOBBY;
 use crate::admit::admit;
 use crate::hall::Hall;
 use ov_ends::{Clock, Sink, Source};
 use ov_keeper::Keeper;
 use ov_lanes::{Desk, are_over, place_of};
-use ov_order::{Bell, Brought, Taken};
+use ov_order::{Bell, Taken};
 use ov_requests::Draws;
-use ov_workers::{Common, Gate};
-use rtrb::Consumer;
+use ov_workers::{Common, Gate, may_come};
 use std::alloc::Global;
 use std::rt::Clock as SystemClock;
 use std::sync::Wait;
@@ -23,16 +21,8 @@ use std::sync::ledger::Ledger;
 use std::thread;
 use std::thread::{Scope, Threads};
 
-/// Takes an item of the ring once it is seen there.
-fn pop_once_seen<R: Wait, T: Drop>(rt: &R, ring: &mut Consumer<T>) -> T {
-    for _ in rt.forever() {
-        if let Ok(item) = ring.pop() {
-            return item;
-        }
-        thread::yield_now();
-    }
-    unreachable!()
-}
+/// What the accepting worker notes for each item it brings. No session has this serial.
+pub(crate) const LOBBY: u64 = 0;
 
 /// Takes an item of the session of this serial once it is seen, as `Desk::turn` does. If the session has no place, takes
 /// nothing, changes nothing and returns false.
@@ -77,23 +67,21 @@ where
     W: Sink + Send + Drop + 's,
     requires seats { AreSeats hall.old }
     ensures hosts { (moment : ℕ)
-        → HostsOn (ends_of S.Source W.Sink) moment hall.old.desk hall.new.desk }
+        → HostsOn (ends_of S.Source W.Sink) moment hall.old hall.new }
     ensures untaken { StayOrLeave IsTended (ends_of S.Source W.Sink) hall.old.desk.lanes.items
-        hall.new.desk.lanes.items }
+        hall.old.workers.items hall.new.desk.lanes.items hall.new.workers.items }
     ensures seats { AreSeats hall.new }
     ensures honest { K.is_honest hall.new.desk.core.keeper → K.is_honest hall.old.desk.core.keeper }
 {
-    let Some(ring) = &mut hall.accepted else {
+    hall.tend(common.rt, bells);
+    let Some(arrivals) = &mut hall.accepted else {
         return;
     };
-    match pop_once_seen(common.rt, ring) {
-        Brought::Message(link) => {
-            hall.tend(common.rt, bells);
-            // A client that is not served finds its connection closed, and gets no other answer.
-            let _ = admit(common, scope, bells, hall, link);
-        }
-        Brought::End(()) => hall.accepted = None,
-    }
+    let Some(link) = arrivals.take(common.rt) else {
+        return;
+    };
+    // A client that is not served finds its connection closed, and gets no other answer.
+    let _ = admit(common, scope, bells, hall, link);
 }
 
 /// Takes the item of a note: from the accepting worker, or from a session's reader. Returns whether all that waits was moved
@@ -115,14 +103,13 @@ where
     S: Source + Send + Drop + 's,
     W: Sink + Send + Drop + 's,
     requires seats { AreSeats hall.old }
-    ensures hosts { HostsOn (ends_of S.Source W.Sink) moment hall.old.desk hall.new.desk }
-    ensures noted { TakesNote (ends_of S.Source W.Sink) note hall.old result
-        hall.new.desk.lanes.items }
+    ensures hosts { HostsOn (ends_of S.Source W.Sink) moment hall.old hall.new }
+    ensures noted { TakesNote (ends_of S.Source W.Sink) note hall.old result hall.new }
     ensures kept { KeepsHall (note ∷ []) hall.old hall.new }
     ensures seats { AreSeats hall.new }
     ensures honest { K.is_honest hall.new.desk.core.keeper → K.is_honest hall.old.desk.core.keeper }
 {
-    if note == LOBBY && hall.accepted.is_some() {
+    if note == LOBBY && may_come(&hall.accepted) {
         accept_once_seen(common, scope, bells, hall);
         return false;
     }
@@ -148,7 +135,7 @@ where
     S: Source + Send + Drop + 's,
     W: Sink + Send + Drop + 's,
     requires seats { AreSeats hall.old }
-    ensures hosts { HostsOn (ends_of S.Source W.Sink) moment hall.old.desk hall.new.desk }
+    ensures hosts { HostsOn (ends_of S.Source W.Sink) moment hall.old hall.new }
     ensures noted { ServesNote (ends_of S.Source W.Sink) note hall.old hall.new }
     ensures kept { KeepsHall (option_to_list note) hall.old hall.new }
     ensures seats { AreSeats hall.new }
@@ -188,7 +175,7 @@ where
     W: Sink + Send + Drop + 's,
     C: Clock,
     requires seats { AreSeats hall.old }
-    ensures hosts { HostsBy (ends_of S.Source W.Sink) C.tells hall.old.desk clock.old hall.new.desk
+    ensures hosts { HostsBy (ends_of S.Source W.Sink) C.tells hall.old clock.old hall.new
         clock.new }
     ensures over { AreOver hall.new.desk.lanes.items }
     ensures noted { (notes : List (Option ℕ))
@@ -201,7 +188,7 @@ where
 {
     let mut is_busy = true;
     for _ in common.rt.forever() {
-        if hall.accepted.is_none() && are_over(&hall.desk.lanes) {
+        if !may_come(&hall.accepted) && are_over(&hall.desk.lanes) {
             return;
         }
         let note = match hall.desk.core.due() {

@@ -1,14 +1,11 @@
 //! The desk's side of its sessions' rings: what it takes from them goes into the core, and what the core sends goes into
-//! them. Also what is served: a desk, the two ends of a session, and who gives them. This crate starts no thread and never
-//! waits.
+//! them. This crate starts no thread and never waits.
 #![tactic(auto)]
 
 mod desk;
 mod fault;
 mod lane;
 mod lanes;
-mod link;
-mod listen;
 mod moves;
 mod open;
 mod places;
@@ -17,7 +14,5 @@ pub use desk::Desk;
 pub use fault::ServeFault;
 pub use lane::Lane;
 pub use lanes::{are_over, free_place, place_of};
-pub use link::Link;
-pub use listen::Listen;
 pub use open::{open_sessions, shows_nothing_opened};
 pub use places::has_places;

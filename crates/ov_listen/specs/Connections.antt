@@ -6,16 +6,17 @@ use Rattle.std.specs.declared.io.buffered.BufWriter.{BufWriter}
 use Rattle.std.specs.declared.net.tcp.TcpStream.{TcpStream}
 use Rattle.ov_ends.specs.States.{source_state, sink_state}
 use Rattle.ov_ends.specs.declared.watched.Watched.{Watched}
-use Rattle.ov_lanes.specs.declared.link.Link.{Link}
+use Rattle.ov_workers.specs.declared.link.Link.{Link}
 use Rattle.ov_lanes.specs.declared.fault.ServeFault.{ServeFault}
 use Rattle.ov_lanes.specs.Pairs.{Pairwise}
 use Rattle.ov_desk.specs.declared.link.End.{End}
 use Rattle.ov_desk.specs.Guests.{ServesGuests}
-use Rattle.ov_desk.specs.LinkStates.{LinkState}
+use Rattle.ov_workers.specs.LinkStates.{LinkState}
 use Rattle.ov_desk.specs.Serving.{RefusesLinks, ServesAll}
 use Rattle.ov_core.specs.Following.{Timed}
 use Rattle.ov_sockets.specs.declared.fault.ListenFault.{ListenFault}
-use Rattle.ov_sockets.specs.Links.{IsLinkOf}
+use Rattle.ov_sockets.specs.declared.clients.Clients.{Clients}
+use Rattle.ov_sockets.specs.Links.{GivesClient, IsLinkOf}
 use Rattle.ov_words.specs.declared.ending.Ending.{Ending}
 use Rattle.ov_words.specs.declared.ending.Ending.TheVariants as ending
 use Rattle.ov_listen.specs.Endings.{by_listening, by_serving}
@@ -62,11 +63,12 @@ module _ {K D C : Type 0} (tells : C → ℕ → C → Type 0) where
       × (length streams ≡ count) × ServesConnections old streams new remains))
       ⊎ (RefusesConnections old count told new ⊎ FailsToListen old told new)
 
-  -- Every client that was given a session was served, until no connection could be accepted; or the lobby was refused, no
-  -- client was accepted, the ending is that of the fault, and the core is as it was.
+  -- Every client that was given a session was served over its own connection, which was unused before, until no connection
+  -- could be accepted; or the lobby was refused, no client was accepted, the ending is that of the fault, and the core is as it
+  -- was.
   abbrev pub EndsEveryone : Timed K D C → Ending → Timed K D C → Type 0
   EndsEveryone old told new =
-      ((told ≡ ending.Streams) × ServesGuests (socket_ends {R = TcpStream} {W = BufWriter TcpStream Global}) tells old new)
+      ((told ≡ ending.Streams) × ((clients : Clients) × ServesGuests (socket_ends {R = TcpStream} {W = BufWriter TcpStream Global}) tells GivesClient clients old new))
       ⊎ ((fault : ServeFault) × (told ≡ by_serving fault) × (new.core ≡ old.core) × (new.clock ≡ old.clock))
 
   -- This many connections were served if a number is given, and otherwise every client; or the server could not listen.

@@ -1,8 +1,8 @@
 ghost use Rattle.std.specs.Prelude.{◌≡◌, IfSome};
-ghost use Rattle.ov_sockets.specs.Links.{IsNewClient};
+ghost use Rattle.ov_sockets.specs.Links.{GivesClient, IsNewClient};
 
 use ov_ends::Watched;
-use ov_lanes::{Link, Listen};
+use ov_workers::{Link, Listen};
 use std::alloc::Global;
 use std::io::{BufWriter, ErrorKind};
 use std::net::{TcpListener, TcpStream};
@@ -30,6 +30,8 @@ impl Clients {
 }
 
 impl Listen<ClientReader, ClientWriter> for Clients {
+    ghost gives = { GivesClient };
+
     /// Skips a connection that its client gave up before it was accepted, and closes one at once if the system has no room
     /// for its ends. What is written is sent at once and not gathered (TCP_NODELAY), unless the system refuses that.
     fn accept(&mut self) -> Option<Link<ClientReader, ClientWriter>> {

@@ -4,7 +4,7 @@ ghost use Rattle.ov_sockets.specs.Links.{IsLinkOf};
 
 use crate::fault::ListenFault;
 use ov_ends::Watched;
-use ov_lanes::Link;
+use ov_workers::Link;
 use std::alloc::Global;
 use std::collections::VecDeque;
 use std::io::BufWriter;

@@ -2,3 +2,4 @@ pub mod Crossing
 pub mod Frames
 pub mod Bringing
 pub mod Streams
+pub mod Coming

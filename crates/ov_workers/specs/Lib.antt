@@ -1,3 +1,5 @@
+pub mod LinkStates
+pub mod Accepting
 pub mod Stream
 pub mod Reading
 pub mod Writing

@@ -2,7 +2,7 @@ use crate::holding::{HoldingGate, Mark};
 use ov_core::Cause;
 use ov_desk::End;
 use ov_ends::Watched;
-use ov_lanes::Link;
+use ov_workers::Link;
 use std::alloc::{AllocError, Global};
 use std::collections::VecDeque;
 use std::io;

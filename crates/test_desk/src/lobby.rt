@@ -4,9 +4,9 @@ use crate::desks::RisingClock;
 use ov_desk::serve_lobby;
 use ov_ends::Watched;
 use ov_keeper::Keeper;
-use ov_lanes::{Desk, Link, Listen};
+use ov_lanes::Desk;
 use ov_requests::Draws;
-use ov_workers::FreeGate;
+use ov_workers::{FreeGate, Link, Listen};
 use std::alloc::{AllocError, Global};
 use std::io::{Read, Write};
 use std::rt::Clock;
@@ -220,6 +220,8 @@ impl<'b, 'r, 's, R: Wait + Clock> Listen<
     Watched<LobbyReader<'b, 'r, 's, R>>,
     Watched<LobbyWriter<'b, 'r, R>>,
 > for LobbyListener<'b, 'r, 's, R> {
+    ghost gives = { λ _ _ _. Unit {0} };
+
     fn accept(
         &mut self,
     ) -> Option<Link<Watched<LobbyReader<'b, 'r, 's, R>>, Watched<LobbyWriter<'b, 'r, R>>>> {

@@ -1,7 +1,7 @@
 use crate::sessions::client_of;
 use ov_ends::{Sink, Source};
-use ov_lanes::Link;
 use ov_sockets::{SocketReader, SocketWriter, accept_all, links_of, listen};
+use ov_workers::Link;
 use std::alloc::Global;
 use std::io::{Read, Write};
 use std::net::{Net, Shutdown, TcpListener, TcpStream};

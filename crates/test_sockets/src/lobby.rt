@@ -4,10 +4,10 @@ use crate::sessions::{client_of, meets_end, talk};
 use ov_desk::serve_lobby;
 use ov_ends::{Clock, Watched};
 use ov_keeper::Keeper;
-use ov_lanes::{Desk, Link, Listen};
+use ov_lanes::Desk;
 use ov_requests::Draws;
 use ov_sockets::listen;
-use ov_workers::FreeGate;
+use ov_workers::{FreeGate, Link, Listen};
 use std::alloc::Global;
 use std::fs::{Files, read_dir};
 use std::net::{Net, Shutdown, TcpListener, TcpStream};
@@ -40,6 +40,8 @@ struct Few<'l> {
 }
 
 impl Listen<Watched<TcpStream>, Watched<TcpStream>> for Few<'_> {
+    ghost gives = { λ _ _ _. Unit {0} };
+
     fn accept(&mut self) -> Option<Link<Watched<TcpStream>, Watched<TcpStream>>> {
         self.left = self.left.checked_sub(1)?;
         let (stream, _) = self.listener.accept().ok()?;

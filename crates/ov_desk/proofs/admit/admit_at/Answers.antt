@@ -30,11 +30,21 @@ returns-in-Ok-clause-answer g c bells parts =
     record {
       opened = ap (λ k. is_open k.state c.args.hall.now.desk.core.state.next) c.seat.ensures.same.0 ∙ there.0;
       next = ap (λ (k : CoreState _ _). k.state.next) c.seat.ensures.same.0 ∙ there.1;
-      place = (c.args.at, c.new-lane.result, search rules, c.requires.place.1, c.seat.ensures.lanes, ap (λ s. s.serial) c.new-lane.ensures.session ∙ c.in-Ok.ensures.opened.tells.1);
+      place = record {
+        at = c.args.at;
+        lane = c.new-lane.result;
+        works = c.hand.new.self;
+        within = (let many = c.requires.seats.many in (search rules, search rules));
+        free = c.requires.place.1;
+        lanes = c.seat.ensures.lanes;
+        workers = c.seat.ensures.workers;
+        session = ap (λ s. s.serial) c.new-lane.ensures.session ∙ c.in-Ok.ensures.opened.tells.1;
+        handed = c.hand.ensures.handed;
+      };
     }
 
 pub returns-in-Err-clause-goes : goal.returns-in-Err-clause-goes
 returns-in-Err-clause-goes g c moment = goes_unchanged moment c.args.hall.now.desk.lanes.items c.in-Err.ensures.refused.0
 
 pub returns-in-Err-clause-answer : goal.returns-in-Err-clause-answer
-returns-in-Err-clause-answer g c bells parts = (c.in-Err.ensures.refused.1, (c.in-Err.ensures.refused.0, refl))
+returns-in-Err-clause-answer g c bells parts = (c.in-Err.ensures.refused.1, (c.in-Err.ensures.refused.0, refl, refl))

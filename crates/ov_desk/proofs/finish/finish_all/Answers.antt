@@ -3,7 +3,7 @@ use Rattle.ov_lanes.specs.Pairs.{Threewise}
 use Rattle.ov_lanes.proofs.Pairs.{popped_at, popped_rest}
 use Rattle.ov_lanes.proofs.PlaceLaws.{at_below}
 use Rattle.ov_desk.specs.Ends.{EndsSeat}
-use Rattle.ov_desk.specs.LinkStates.{ends_of}
+use Rattle.ov_workers.specs.LinkStates.{ends_of}
 use Rattle.ov_desk.specs.Seats.{IsSeatOf}
 use Rattle.ov_desk.proofs.Pairs.{threes_none_left}
 use Rattle.ov_desk.proofs.Seats.{last_seated, last_seat, seat_parts, seat_not_none, seat_works}

@@ -1,11 +1,11 @@
 use Rattle.std.proofs.Common.{◌≡◌, ◌+◌, ◌≤◌, ◌++◌, List, Option, vec_len}
 use Rattle.std.specs.VecDeque.{deque_len, deque_capacity}
 use Rattle.ov_lanes.specs.declared.lane.Lane.{Lane}
-use Rattle.ov_lanes.specs.declared.link.Link.{Link}
+use Rattle.ov_workers.specs.declared.link.Link.{Link}
 use Rattle.ov_lanes.specs.Lanes.{AreOver}
 use Rattle.ov_lanes.specs.Pairs.{Threewise}
 use Rattle.ov_desk.specs.Ends.{EndsSeat}
-use Rattle.ov_desk.specs.LinkStates.{ends_of}
+use Rattle.ov_workers.specs.LinkStates.{ends_of}
 use Rattle.ov_desk.specs.Seats.{IsSeatOf}
 use Rattle.ov_desk.proofs.finish.finish_all.Given as goal
 

@@ -1,6 +1,6 @@
 use Rattle.std.proofs.Common.{true, refl, subst}
 use Rattle.ov_desk.specs.Ending.{CourseEnds}
-use Rattle.ov_desk.specs.LinkStates.{ends_of}
+use Rattle.ov_workers.specs.LinkStates.{ends_of}
 use Rattle.ov_desk.proofs.Seats.{kept_not_none, kept_is}
 use Rattle.ov_desk.proofs.finish.finish_link.Goals as goal
 

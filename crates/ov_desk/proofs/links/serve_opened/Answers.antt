@@ -1,6 +1,6 @@
 use Rattle.std.proofs.Common.{rules, ◌≡◌, ◌++◌, ℕ, length, vec_len, ◌≤◌, refl, sym, ap, subst, ◌∙◌, arith}
 use Rattle.std.specs.VecDeque.{deque_len, deque_capacity}
-use Rattle.ov_desk.specs.LinkStates.{ends_of}
+use Rattle.ov_workers.specs.LinkStates.{ends_of}
 use Rattle.ov_core.specs.Following.{with_clock}
 use Rattle.ov_lanes.specs.Lanes.{SameLane, StayAs}
 use Rattle.ov_lanes.specs.Opening.{OpensAll}

@@ -1,6 +1,6 @@
 use Rattle.std.proofs.Common.{◌≡◌, ◌++◌, ◌∷◌, [], refl, sym, ap, ◌∙◌, append-nil}
 use Rattle.std.specs.Prelude.{option_to_list}
-use Rattle.ov_desk.specs.LinkStates.{ends_of}
+use Rattle.ov_workers.specs.LinkStates.{ends_of}
 use Rattle.ov_desk.proofs.Guests.{hosts_first, hosts_more}
 use Rattle.ov_desk.proofs.Noting.{each_more, taken_more}
 use Rattle.ov_desk.proofs.Running.{hall_along, hall_same, noted_more, briefly}
@@ -9,7 +9,7 @@ use Rattle.ov_desk.proofs.run.run.Goals as goal
 
 pub loop-init : goal.loop-init
 loop-init g c = record {
-  hosts = hosts_first (ends_of g.S.Source g.W.Sink) g.C.Clock.tells c.args.hall.now.desk c.args.clock.now;
+  hosts = hosts_first (ends_of g.S.Source g.W.Sink) g.C.Clock.tells c.args.hall.now c.args.clock.now;
   noted = ([], sym (append-nil c.args.taken.now.serials), refl);
   kept = ([], sym (append-nil c.args.taken.now.serials), hall_same c.args.hall.now);
   honest = λ honest. honest;
@@ -28,7 +28,7 @@ loop-preserved g c =
           ∙ (briefly before w.wait_briefly-note.new.taken.serials w.wait_briefly-note.result w.wait_briefly-note.ensures ∙ ap (λ o. before ++ option_to_list o) (sym w.note-is))
     ] in
     record {
-      hosts = hosts_more (ends_of g.S.Source g.W.Sink) g.C.Clock.tells a.desk b.desk h.desk c.args.clock.now c.loop.clock c.now.new.self c.now.result was.hosts c.now.ensures c.serve_note.ensures.hosts;
+      hosts = hosts_more (ends_of g.S.Source g.W.Sink) g.C.Clock.tells a b h c.args.clock.now c.loop.clock c.now.new.self c.now.result was.hosts c.now.ensures c.serve_note.ensures.hosts;
       noted = (
         was.noted.0 ++ c.match-due.note ∷ [],
         taken_more first before after was.noted.0 c.match-due.note was.noted.1 told,

@@ -1,17 +1,18 @@
 use Rattle.std.proofs.Common.{refl}
-use Rattle.ov_desk.specs.LinkStates.{ends_of}
+use Rattle.ov_workers.specs.LinkStates.{ends_of}
 use Rattle.ov_desk.proofs.Guests.{session_stays, hosts_steady}
 use Rattle.ov_desk.proofs.Running.{kept_noted}
 use Rattle.ov_desk.proofs.Seats.{seats_stay}
 use Rattle.ov_desk.proofs.run.take_noted.Goals as goal
 
-pub returns-then-is_some-clause-hosts : goal.returns-then-is_some-clause-hosts
-returns-then-is_some-clause-hosts g c = c.accept_once_seen.ensures.hosts c.args.moment
+pub returns-then-may_come-clause-hosts : goal.returns-then-may_come-clause-hosts
+returns-then-may_come-clause-hosts g c = c.accept_once_seen.ensures.hosts c.args.moment
 
 pub returns-clause-hosts : goal.returns-clause-hosts
 returns-clause-hosts g c =
-    let ends = ends_of g.S.Source g.W.Sink in let a = c.args.hall.now.desk in let b = c.turn_once_seen.new.desk in
-    hosts_steady ends c.args.moment a b c.turn_once_seen.ensures.goes (session_stays ends a.lanes.items b.lanes.items c.turn_once_seen.ensures.rings) c.turn_once_seen.ensures.steady.next
+    let ends = ends_of g.S.Source g.W.Sink in let a = c.args.hall.now in let b = c.turn_once_seen.new.desk in
+    hosts_steady ends c.args.moment a (record a { desk = b }) refl c.turn_once_seen.ensures.goes (session_stays ends a.desk.lanes.items b.lanes.items a.workers.items c.turn_once_seen.ensures.rings)
+    c.turn_once_seen.ensures.steady.next
 
 pub returns-clause-kept : goal.returns-clause-kept
 returns-clause-kept g c keeps none = (

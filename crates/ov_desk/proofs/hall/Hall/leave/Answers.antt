@@ -2,7 +2,7 @@ use Rattle.std.proofs.Common.{rules, List, Option, refl, sym, subst, ◌∙◌, 
 use Rattle.ov_lanes.specs.Lanes.{PlacesGoOn}
 use Rattle.ov_lanes.specs.declared.lane.Lane.{Lane}
 use Rattle.ov_desk.specs.Guests.{StayOrLeave}
-use Rattle.ov_desk.specs.LinkStates.{ends_of}
+use Rattle.ov_workers.specs.LinkStates.{ends_of}
 use Rattle.ov_desk.specs.Seats.{ArePlaces}
 use Rattle.ov_desk.specs.Serving.{IsTended}
 use Rattle.ov_desk.proofs.Guests.{leaves_at, leaves_free}
@@ -30,12 +30,13 @@ join_workers-left-requires-clause-over g c = c.requires.over c.in-Some.lane (sym
 
 pub returns-in_default-clause-leaves : goal.returns-in_default-clause-leaves
 returns-in_default-clause-leaves g c =
-    let was = c.args.self.now in let core = was.desk.core in let ls = was.desk.lanes.items in let ends = ends_of g.S.Source g.W.Sink in
+    let was = c.args.self.now in let core = was.desk.core in let ls = was.desk.lanes.items in let ws = was.workers.items in let ends = ends_of g.S.Source g.W.Sink in
     record {
       core = refl;
       many = search rules;
       goes = λ moment. subst (λ (l : List (Option Lane)). PlacesGoOn moment core ls core l) (sym c.take_out-place.ensures.1) (goes_left moment ls c.args.at (search rules) (λ l is. (c.requires.over l is).0));
-      leaves = subst (λ (l : List (Option Lane)). StayOrLeave IsTended ends ls l) (sym c.take_out-place.ensures.1) (leaves_free ends ls c.args.at (sym c.take_out-place.ensures.0 ∙ c.in_default.is));
+      leaves = subst (λ (l : List (Option Lane)). StayOrLeave IsTended ends ls ws l c.take_out-seat.new.places.items) (sym c.take_out-place.ensures.1)
+          (subst (λ v. StayOrLeave IsTended ends ls ws (slice_set ls c.args.at None) v) (sym c.take_out-seat.ensures.1) (leaves_free ends ls ws c.args.at (sym c.take_out-place.ensures.0 ∙ c.in_default.is)));
       same = (refl, refl);
       seats = subst (λ l. ArePlaces was.keeps l c.take_out-seat.new.places.items) (sym c.take_out-place.ensures.1)
           (subst (λ v. ArePlaces was.keeps (slice_set ls c.args.at None) v) (sym c.take_out-seat.ensures.1) (seats_set was.keeps ls was.workers.items c.args.at None None (search rules) refl c.requires.seats));
@@ -43,21 +44,21 @@ returns-in_default-clause-leaves g c =
 
 pub returns-clause-leaves : goal.returns-clause-leaves
 returns-clause-leaves g c =
-    let was = c.args.self.now in let core = was.desk.core in let ls = was.desk.lanes.items in let ends = ends_of g.S.Source g.W.Sink in
+    let was = c.args.self.now in let core = was.desk.core in let ls = was.desk.lanes.items in let ws = was.workers.items in let ends = ends_of g.S.Source g.W.Sink in
     let lane = c.in-Some.lane in let left = c.join_workers-left.result in
-    let is = sym c.take_out-place.ensures.0 ∙ c.in-Some.is in
-    let seat = seated_at was.keeps ls was.workers.items c.args.at lane c.in-Some-seat.workers is (sym c.take_out-seat.ensures.0 ∙ c.in-Some-seat.is) c.requires.seats in
+    let is = sym c.take_out-place.ensures.0 ∙ c.in-Some.is in let works = sym c.take_out-seat.ensures.0 ∙ c.in-Some-seat.is in
+    let seat = seated_at was.keeps ls ws c.args.at lane c.in-Some-seat.workers is works c.requires.seats in
     record {
       core = refl;
       many = search rules;
       goes = λ moment. subst (λ (l : List (Option Lane)). PlacesGoOn moment core ls core l) (sym c.take_out-place.ensures.1) (goes_left moment ls c.args.at (search rules) (λ l is. (c.requires.over l is).0));
-      leaves = subst (λ (l : List (Option Lane)). StayOrLeave IsTended ends ls l) (sym c.take_out-place.ensures.1)
-          (leaves_at ends ls c.args.at lane is (record {
-            link = seat.1.0;
+      leaves = subst (λ (l : List (Option Lane)). StayOrLeave IsTended ends ls ws l c.take_out-seat.new.places.items) (sym c.take_out-place.ensures.1)
+          (subst (λ v. StayOrLeave IsTended ends ls ws (slice_set ls c.args.at None) v) (sym c.take_out-seat.ensures.1)
+          (leaves_at ends ls ws c.args.at lane c.in-Some-seat.workers seat.1.0 is works seat.1.1 (record {
             remains = record { serial = lane.session.serial; cause = left.cause; reader = left.last_reader.value; writer = left.last_writer.value };
             ended = (c.requires.over lane is).0;
             comes_to = (refl, λ course fits. c.join_workers-left.ensures.ends seat.1.0 seat.1.1 course fits);
-          }));
+          })));
       same = (refl, refl);
       seats = subst (λ l. ArePlaces was.keeps l c.take_out-seat.new.places.items) (sym c.take_out-place.ensures.1)
           (subst (λ v. ArePlaces was.keeps (slice_set ls c.args.at None) v) (sym c.take_out-seat.ensures.1) (seats_set was.keeps ls was.workers.items c.args.at None None (search rules) refl c.requires.seats));

@@ -1,7 +1,7 @@
 use Rattle.std.proofs.Common.{rules, ◌≡◌, ◌≤◌, ℕ, ◌<◌, ◌+◌, None, List, Option, get_or, length, sym, subst, arith}
 use Rattle.ov_lanes.specs.Lanes.{AreOver}
 use Rattle.ov_lanes.specs.declared.lane.Lane.{Lane}
-use Rattle.ov_desk.specs.LinkStates.{ends_of}
+use Rattle.ov_workers.specs.LinkStates.{ends_of}
 use Rattle.ov_desk.proofs.Guests.{all_left}
 use Rattle.ov_desk.proofs.Halls.{emptied_over, emptied_more, all_emptied, tends_none, tends_along}
 use Rattle.ov_desk.proofs.hall.Hall.leave_all.Goals as goal
@@ -32,7 +32,7 @@ pub returns-clause-left : goal.returns-clause-left
 returns-clause-left g c =
     let was = c.loop-place.invariant in let many = was.tends.many in let ms = c.loop-place.self.desk.lanes.items in
     let long : length ms ≤ c.loop-place.place = search rules in
-    all_left (ends_of g.S.Source g.W.Sink) c.args.self.now.desk.lanes.items ms was.tends.leaves (all_emptied ms c.loop-place.place long was.free)
+    all_left (ends_of g.S.Source g.W.Sink) c.args.self.now.desk.lanes.items ms c.args.self.now.workers.items c.loop-place.self.workers.items was.tends.leaves (all_emptied ms c.loop-place.place long was.free)
 
-pub returns-clause-core : goal.returns-clause-core
-returns-clause-core g c = c.loop-place.invariant.tends.core
+pub returns-clause-same : goal.returns-clause-same
+returns-clause-same g c = let tends = c.loop-place.invariant.tends in (tends.core, tends.same.1)

@@ -1,7 +1,7 @@
 use Rattle.std.proofs.Common.{◌≡◌, ◌<◌, ℕ, None, get_or}
 use Rattle.ov_lanes.specs.Lanes.{AreOver}
 use Rattle.ov_desk.specs.Guests.{TendsHall}
-use Rattle.ov_desk.specs.LinkStates.{ends_of}
+use Rattle.ov_workers.specs.LinkStates.{ends_of}
 use Rattle.ov_desk.proofs.hall.Hall.leave_all.Given as goal
 
 abbrev pub invariant-loop-place : goal.invariant-loop-place

@@ -1,5 +1,5 @@
 use Rattle.std.proofs.Common.{refl, ◌∙◌}
-use Rattle.ov_desk.specs.LinkStates.{ends_of}
+use Rattle.ov_workers.specs.LinkStates.{ends_of}
 use Rattle.ov_desk.proofs.Halls.{tends_none, tends_along}
 use Rattle.ov_desk.proofs.Running.{tended_all, tended_along}
 use Rattle.ov_desk.proofs.hall.Hall.tend.Goals as goal

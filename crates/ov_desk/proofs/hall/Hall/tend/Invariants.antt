@@ -1,5 +1,5 @@
 use Rattle.ov_desk.specs.Guests.{TendsHall, IsKept}
-use Rattle.ov_desk.specs.LinkStates.{ends_of}
+use Rattle.ov_workers.specs.LinkStates.{ends_of}
 use Rattle.ov_desk.proofs.hall.Hall.tend.Given as goal
 
 abbrev pub invariant-loop-at : goal.invariant-loop-at

@@ -2,7 +2,7 @@ use Rattle.std.proofs.Common.{rules, ◌≡◌, true, refl, subst, sym, ◌∙�
 use Rattle.std.proofs.lemmas.Option.{same_Some}
 use Rattle.ov_lanes.specs.declared.lane.Lane.{Lane}
 use Rattle.ov_lanes.proofs.PlaceLaws.{goes_along, goes_looked}
-use Rattle.ov_desk.specs.LinkStates.{ends_of}
+use Rattle.ov_workers.specs.LinkStates.{ends_of}
 use Rattle.ov_desk.proofs.Guests.{leaves_tended, leaves_along}
 use Rattle.ov_desk.proofs.Halls.{tends_none}
 use Rattle.ov_desk.proofs.Running.{tended_all, looks_tended, tended_same_all}
@@ -33,11 +33,12 @@ pub returns-then-not-self-clause-tends : goal.returns-then-not-self-clause-tends
 returns-then-not-self-clause-tends g c =
     let ls = c.args.self.now.desk.lanes.items in let ms = c.tend_lane_at-has_left.new.lanes.items in let ns = c.leave.new.self.desk.lanes.items in
     let ends = ends_of g.S.Source g.W.Sink in let tended = c.tend_lane_at-has_left.ensures.tended in let left = c.leave.ensures.leaves in
+    let ws = c.args.self.now.workers.items in
     record {
       core = left.core;
       many = (let many = left.many in let many' = tended.many in search rules);
       goes = λ moment. goes_along moment ls ms ns (goes_looked moment ls ms (looks_tended ls ms tended)) (left.goes moment);
-      leaves = leaves_along ends ls ms ns (leaves_tended ends ls ms tended) left.leaves;
+      leaves = leaves_along ends ls ms ns ws ws c.leave.new.self.workers.items (leaves_tended ends ls ms ws tended) left.leaves;
       same = left.same;
       seats = left.seats;
     }
@@ -49,7 +50,7 @@ returns-else-has_left-clause-tends g c =
       core = refl;
       many = (let many = tended.many in search rules);
       goes = λ moment. goes_looked moment ls ms (looks_tended ls ms tended);
-      leaves = leaves_tended (ends_of g.S.Source g.W.Sink) ls ms tended;
+      leaves = leaves_tended (ends_of g.S.Source g.W.Sink) ls ms c.args.self.now.workers.items tended;
       same = (refl, refl);
       seats = seats_stay c.args.self.now.keeps ls ms c.args.self.now.workers.items (tended_same_all ls ms tended) c.requires.seats;
     }
