@@ -12,7 +12,10 @@ defaults_in = map (λ c. default_of c.1.type_of)
 
 -- the names and the defaults of these columns but `_uuid` and `_version`
 abbrev pub shape_in : List (List ℕ × Column) → Shape
-shape_in columns = record { names = without_own (map (λ c. c.0) columns); defaults = defaults_in (filter (λ c. not (is_own_column c.0)) columns) }
+shape_in columns = record {
+  names = without_own (map (λ c. c.0) columns);
+  defaults = defaults_in (filter (λ c. not (is_own_column c.0)) columns);
+}
 
 -- the defaults of the columns that the table's rows have, in ascending order of the columns' names
 abbrev pub row_defaults : Table → List Datum
