@@ -12,4 +12,5 @@ pub record Shape : Type 0 where
 -- a shape as a pair
 abbrev pub shape_code : Coded Shape
 shape_code =
-    code_by (List (List ℕ) × List Datum) (coded× (coded_list (coded_list coded_ℕ)) (coded_list datum_code)) (λ s. (s.names, s.defaults)) (λ p. record { names = p.0; defaults = p.1 }) (λ _. refl)
+    code_by (List (List ℕ) × List Datum) (coded× (coded_list (coded_list coded_ℕ)) (coded_list datum_code))
+    (λ s. (s.names, s.defaults)) (λ p. record { names = p.0; defaults = p.1 }) (λ _. refl)

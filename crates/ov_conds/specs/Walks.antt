@@ -30,14 +30,17 @@ includes_atoms rest (a ∷ atoms) = is_first (λ b. same_atom b a) (atoms_from a
 -- each pair of the second list is in the first
 abbrev pub includes_pairs : List (Atom × Atom) → List (Atom × Atom) → Bool
 includes_pairs rest [] = true
-includes_pairs rest (p ∷ pairs) = is_first (λ q. same_pair q p) (pairs_from p.0 rest) && includes_pairs (pairs_from p.0 rest) pairs
+includes_pairs rest (p ∷ pairs) =
+    is_first (λ q. same_pair q p) (pairs_from p.0 rest) && includes_pairs (pairs_from p.0 rest) pairs
 
 -- no atom of the second list is in the first
 abbrev pub excludes_atoms : List Atom → List Atom → Bool
 excludes_atoms rest [] = true
-excludes_atoms rest (a ∷ atoms) = not (is_first (λ b. same_atom b a) (atoms_from a rest)) && excludes_atoms (atoms_from a rest) atoms
+excludes_atoms rest (a ∷ atoms) =
+    not (is_first (λ b. same_atom b a) (atoms_from a rest)) && excludes_atoms (atoms_from a rest) atoms
 
 -- no pair of the second list is in the first
 abbrev pub excludes_pairs : List (Atom × Atom) → List (Atom × Atom) → Bool
 excludes_pairs rest [] = true
-excludes_pairs rest (p ∷ pairs) = not (is_first (λ q. same_pair q p) (pairs_from p.0 rest)) && excludes_pairs (pairs_from p.0 rest) pairs
+excludes_pairs rest (p ∷ pairs) =
+    not (is_first (λ q. same_pair q p) (pairs_from p.0 rest)) && excludes_pairs (pairs_from p.0 rest) pairs

@@ -2,6 +2,7 @@
 use Rattle.std.proofs.Common.{◌≡◌, List, [], ◌∷◌, map, Bool, true, false, cond, ◌||◌, Option, Some, None, is_some, option_map, option_and_then, refl, sym, ap, ◌∙◌}
 use Rattle.std.specs.FinMap.{empty, get, insert, entries, keys, find, from_entries, get-empty, get-entries, get-insert, same_map}
 use Rattle.std.specs.List.{filter_map, cons_option, list_any}
+use Rattle.std.specs.Option.{option_or}
 use Rattle.std.specs.Ordering.{eq_by_cmp}
 use Rattle.ov_specs.specs.conversion.Carried.{carried_row, carried_if_kept, carried}
 use Rattle.ov_specs.specs.operations.GivenRow.{with_values}
@@ -20,16 +21,11 @@ abbrev pub with_made : (LineKey → Option Row) → List LineKey → Database �
 with_made made [] rows = rows
 with_made made (key ∷ ks) rows = with_made made ks (with_row key (made key) rows)
 
--- what is made, or else what stands there
-abbrev pub or_rows : Option Row → Option Row → Option Row
-or_rows (Some row) stands = Some row
-or_rows None stands = stands
-
 module _ (made : LineKey → Option Row) where
   abbrev is_among : List LineKey → LineKey → Bool
   is_among ks q = list_any (eq_by_cmp line_cmp q) ks
 
-  get-with_row : (key : LineKey) (o : Option Row) (rows : Database) (q : LineKey) → get (with_row key o rows) q ≡ cond (eq_by_cmp line_cmp q key) (or_rows o (get rows q)) (get rows q)
+  get-with_row : (key : LineKey) (o : Option Row) (rows : Database) (q : LineKey) → get (with_row key o rows) q ≡ cond (eq_by_cmp line_cmp q key) (option_or o (get rows q)) (get rows q)
   get-with_row key None rows q = by (eq_by_cmp line_cmp q key)
     where
       by : (b : Bool) → get rows q ≡ cond b (get rows q) (get rows q)
@@ -38,25 +34,25 @@ module _ (made : LineKey → Option Row) where
   get-with_row key (Some row) rows q = get-insert key_total rows key row q
 
   -- what is made at the key, if it is among them
-  pub get-with_made : (ks : List LineKey) (rows : Database) (q : LineKey) → get (with_made made ks rows) q ≡ cond (is_among ks q) (or_rows (made q) (get rows q)) (get rows q)
+  pub get-with_made : (ks : List LineKey) (rows : Database) (q : LineKey) → get (with_made made ks rows) q ≡ cond (is_among ks q) (option_or (made q) (get rows q)) (get rows q)
   get-with_made [] rows q = refl
   get-with_made (key ∷ ks) rows q =
       get-with_made ks (with_row key (made key) rows) q ∙ by (eq_by_cmp line_cmp q key) refl (is_among ks q) (get-with_row key (made key) rows q)
     where
-      twice : (o s : Option Row) (c : Bool) → cond c (or_rows o (or_rows o s)) (or_rows o s) ≡ or_rows o s
+      twice : (o s : Option Row) (c : Bool) → cond c (option_or o (option_or o s)) (option_or o s) ≡ option_or o s
       twice None s true = refl
       twice None s false = refl
       twice (Some row) s true = refl
       twice (Some row) s false = refl
 
-      by : (b : Bool) → eq_by_cmp line_cmp q key ≡ b → (c : Bool) → get (with_row key (made key) rows) q ≡ cond (eq_by_cmp line_cmp q key) (or_rows (made key) (get rows q)) (get rows q)
-          → cond c (or_rows (made q) (get (with_row key (made key) rows) q)) (get (with_row key (made key) rows) q) ≡ cond (b || c) (or_rows (made q) (get rows q)) (get rows q)
+      by : (b : Bool) → eq_by_cmp line_cmp q key ≡ b → (c : Bool) → get (with_row key (made key) rows) q ≡ cond (eq_by_cmp line_cmp q key) (option_or (made key) (get rows q)) (get rows q)
+          → cond c (option_or (made q) (get (with_row key (made key) rows) q)) (get (with_row key (made key) rows) q) ≡ cond (b || c) (option_or (made q) (get rows q)) (get rows q)
       by true same c at =
-          let here : get (with_row key (made key) rows) q ≡ or_rows (made q) (get rows q) =
-          at ∙ ap (λ b. cond b (or_rows (made key) (get rows q)) (get rows q)) same ∙ ap (λ k. or_rows (made k) (get rows q)) (sym (tied_same q key same)) in
-          ap (λ o. cond c (or_rows (made q) o) o) here ∙ twice (made q) (get rows q) c
+          let here : get (with_row key (made key) rows) q ≡ option_or (made q) (get rows q) =
+          at ∙ ap (λ b. cond b (option_or (made key) (get rows q)) (get rows q)) same ∙ ap (λ k. option_or (made k) (get rows q)) (sym (tied_same q key same)) in
+          ap (λ o. cond c (option_or (made q) o) o) here ∙ twice (made q) (get rows q) c
       by false other c at =
-          ap (λ o. cond c (or_rows (made q) o) o) (at ∙ ap (λ b. cond b (or_rows (made key) (get rows q)) (get rows q)) other)
+          ap (λ o. cond c (option_or (made q) o) o) (at ∙ ap (λ b. cond b (option_or (made key) (get rows q)) (get rows q)) other)
 
   -- the rows that are made of the keys, put one after another
   pub with_values-made : (ks : List LineKey) (rows : Database) → with_values (filter_map (keyed made) ks) rows ≡ with_made made ks rows
@@ -91,7 +87,7 @@ module _ (made : LineKey → Option Row) where
   pub with_made-is : (ks : List LineKey) → with_made made ks empty ≡ from_entries (filter_map (keyed made) ks)
   with_made-is ks = same_map key_total key_exact _ _ (λ q. get-with_made ks empty q ∙ by q (made q) (is_among ks q) ∙ sym (get-made ks q))
     where
-      by : (q : LineKey) (o : Option Row) (c : Bool) → cond c (or_rows o (get (empty {X = Row} {R = line_cmp}) q)) (get (empty {X = Row} {R = line_cmp}) q) ≡ cond c o None
+      by : (q : LineKey) (o : Option Row) (c : Bool) → cond c (option_or o (get (empty {X = Row} {R = line_cmp}) q)) (get (empty {X = Row} {R = line_cmp}) q) ≡ cond c o None
       by q (Some row) true = refl
       by q None true = get-empty line_cmp q
       by q (Some row) false = get-empty line_cmp q

@@ -3,6 +3,7 @@ use Rattle.std.proofs.Common.{◌≡◌, ℕ, List, [], ◌∷◌, filter, Bool,
 use Rattle.std.proofs.lemmas.Option.{same_Some}
 use Rattle.std.specs.FinMap.{get, insert, entries, keys, find, is_sorted, entries_sorted, get-entries, get-insert, same_map}
 use Rattle.std.specs.List.{list_any, filter_map}
+use Rattle.std.specs.Option.{option_or}
 use Rattle.std.specs.Ordering.{eq_by_cmp}
 use Rattle.ov_specs.specs.integrity.Committed.{dangles, pruned_datum, pruned_value, pruned_columns, pruned_row, pruned}
 use Rattle.ov_specs.specs.operations.GivenRow.{with_values}
@@ -20,7 +21,7 @@ use Rattle.ov_specs.proofs.laws.Pruning.{get-pruned_columns, get-pruned}
 use Rattle.ov_specs.proofs.laws.PrunedValues.{is_sorted-filter}
 use Rattle.ov_conversion.specs.Making.{keyed}
 use Rattle.ov_conversion.specs.Pruning.{repaired, repaired_at}
-use Rattle.ov_conversion.proofs.Made.{or_rows, get-with_made, with_values-made, is_among-keys}
+use Rattle.ov_conversion.proofs.Made.{get-with_made, with_values-made, is_among-keys}
 
 -- ---- pairs that remain of a map make a map again
 
@@ -123,14 +124,14 @@ module _ (schema : Schema) (before : Database) (version : Uuid) (rows : Database
   pruned-made ks are =
       with_values-made (repaired_at schema before version rows) ks rows
       ∙ same_map key_total key_exact _ _ (λ q.
-      get-with_made (repaired_at schema before version rows) ks rows q ∙ ap (λ b. cond b (or_rows (repaired_at schema before version rows q) (get rows q)) (get rows q)) (ap (λ k. list_any (eq_by_cmp line_cmp q) k) are ∙ is_among-keys rows q)
+      get-with_made (repaired_at schema before version rows) ks rows q ∙ ap (λ b. cond b (option_or (repaired_at schema before version rows q) (get rows q)) (get rows q)) (ap (λ k. list_any (eq_by_cmp line_cmp q) k) are ∙ is_among-keys rows q)
       ∙ by q (get rows q) ∙ sym (get-pruned schema before version rows q))
     where
       in_row : (q : LineKey) (row : Row) (b : Bool) (other : Row)
-          → or_rows (cond b (Some (cond b other row)) None) (Some row) ≡ Some (cond b other row)
+          → option_or (cond b (Some (cond b other row)) None) (Some row) ≡ Some (cond b other row)
       in_row q row true other = refl
       in_row q row false other = refl
 
-      by : (q : LineKey) (o : Option Row) → cond (is_some o) (or_rows (option_and_then (repaired schema before version rows q) o) o) o ≡ option_map (λ row. pruned_row schema before version rows (q, row)) o
+      by : (q : LineKey) (o : Option Row) → cond (is_some o) (option_or (option_and_then (repaired schema before version rows q) o) o) o ≡ option_map (λ row. pruned_row schema before version rows (q, row)) o
       by q None = refl
       by q (Some row) = in_row q row (dangles schema rows (q, row)) (row_now before version q (pruned_columns rows (get schema.tables q.0) row.columns))

@@ -7,6 +7,7 @@ use Rattle.std.specs.Prelude.{unwrap_or}
 use Rattle.std.specs.FinMap.{empty, get, entries, keys, find, get-empty, get-entries, get-from_entries}
 use Rattle.std.specs.FinMap.Entries.{find-where_key}
 use Rattle.std.specs.List.{list_any}
+use Rattle.std.specs.Option.{option_or}
 use Rattle.std.specs.Ordering.{eq_by_cmp}
 use Rattle.std.specs.Str.{bytes_eq}
 use Rattle.ov_specs.specs.conversion.Carried.{carried_value, carried_columns, carried_row, carried}
@@ -30,10 +31,11 @@ use Rattle.ov_specs.proofs.laws.Committing.{kept_suits}
 use Rattle.ov_specs.proofs.laws.LineKeys.{tied_same}
 use Rattle.ov_specs.proofs.laws.Names.{name_cmp_total, name_exact, same_name-is}
 use Rattle.ov_specs.proofs.laws.Pruning.{find-anew, find-none, pruned_columns_suit, get-pruned}
+use Rattle.ov_specs.proofs.laws.PutValues.{option_or-none}
 use Rattle.ov_specs.proofs.laws.SchemaLaws.{default_is_of}
 use Rattle.ov_specs.proofs.laws.Suiting.{version_suits}
 use Rattle.ov_conversion.specs.Carrying.{carried_at, carried_of}
-use Rattle.ov_conversion.proofs.Made.{or_rows, get-with_made, is_among-keys, carried-made}
+use Rattle.ov_conversion.proofs.Made.{get-with_made, is_among-keys, carried-made}
 
 was_so : (b : Bool) → not b ≡ false → b ≡ true
 was_so true h = refl
@@ -103,16 +105,12 @@ module _ (old new : Schema) (version : Uuid) (before : Database) where
   get-carried : (key : LineKey) → get (carried old new version before) key ≡ carried_of old new version before key
   get-carried key =
       sym (ap (λ rows. get rows key) (carried-made old new version before)) ∙ get-with_made (carried_of old new version before) (keys before) empty key
-      ∙ ap (λ b. cond b (or_rows (carried_of old new version before key) (get {R = line_cmp} empty key)) (get {R = line_cmp} empty key)) (is_among-keys before key)
-      ∙ ap (λ o. cond (is_some (get before key)) (or_rows (carried_of old new version before key) o) o) (get-empty line_cmp key) ∙ by (get before key)
+      ∙ ap (λ b. cond b (option_or (carried_of old new version before key) (get {R = line_cmp} empty key)) (get {R = line_cmp} empty key)) (is_among-keys before key)
+      ∙ ap (λ o. cond (is_some (get before key)) (option_or (carried_of old new version before key) o) o) (get-empty line_cmp key) ∙ by (get before key)
     where
-      some : (o : Option Row) → or_rows o None ≡ o
-      some None = refl
-      some (Some row) = refl
-
-      by : (o : Option Row) → cond (is_some o) (or_rows (option_and_then (carried_at old new version before key) o) None) None ≡ option_and_then (carried_at old new version before key) o
+      by : (o : Option Row) → cond (is_some o) (option_or (option_and_then (carried_at old new version before key) o) None) None ≡ option_and_then (carried_at old new version before key) o
       by None = refl
-      by (Some row) = some (carried_at old new version before key row)
+      by (Some row) = option_or-none (carried_at old new version before key row)
 
   pub carried_suits : is_uuid version ≡ true → Suits old before → has_changed_type old new ≡ false → gets_unfit_default old new before ≡ false → Suits new (carried old new version before)
   carried_suits is_version suits typed fit key row has = by_row (get before key) refl (sym (get-carried key) ∙ has)

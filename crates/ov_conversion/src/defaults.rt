@@ -1,9 +1,9 @@
-ghost use Rattle.std.specs.Prelude.{◌≡◌, ◌&&◌, not, filter, IfOk};
+ghost use Rattle.std.specs.Prelude.{◌≡◌, ◌&&◌, IfOk};
 ghost use Rattle.std.specs.FinMap.{get};
 ghost use Rattle.std.specs.List.{list_any};
 ghost use Rattle.ov_specs.specs.conversion.Converted as spec;
 ghost use Rattle.ov_specs.specs.conversion.Converted.{has_row, lacks_default};
-ghost use Rattle.ov_specs.specs.rows.RowNames.{is_own_column, row_columns};
+ghost use Rattle.ov_specs.specs.rows.RowNames.{row_columns, without_own_columns};
 ghost use Rattle.ov_specs.specs.schema.Schema.{is_some_and};
 
 use ov_base::Text;
@@ -30,7 +30,7 @@ fn lacks_default(
 /// Whether the old table lacks one of these columns, and its default does not fit it.
 fn is_any_unfit(alloc: Global, old: &Table, columns: &[(Text, Column)]) -> Result<bool, AllocError>
     ensures { IfOk result (λ unfit. unfit
-        ≡ list_any (lacks_default old.now) (filter (λ c. not (is_own_column c.0)) columns.now)) }
+        ≡ list_any (lacks_default old.now) (without_own_columns columns.now)) }
 {
     for (name, column) in columns {
         if !is_own(name.as_str()) && lacks_default(alloc, old, name.as_str(), column)? {

@@ -1,10 +1,10 @@
-ghost use Rattle.std.specs.Prelude.{◌≡◌, ◌&&◌, not, filter};
+ghost use Rattle.std.specs.Prelude.{◌≡◌, ◌&&◌};
 ghost use Rattle.std.specs.FinMap.{get};
 ghost use Rattle.std.specs.List.{list_any};
 ghost use Rattle.std.specs.Str.{bytes_eq};
 ghost use Rattle.ov_specs.specs.conversion.Converted as spec;
 ghost use Rattle.ov_specs.specs.conversion.Converted.{is_of_changed_type};
-ghost use Rattle.ov_specs.specs.rows.RowNames.{is_own_column, row_columns};
+ghost use Rattle.ov_specs.specs.rows.RowNames.{row_columns, without_own_columns};
 ghost use Rattle.ov_specs.specs.schema.Newer.{newer_than};
 ghost use Rattle.ov_specs.specs.schema.Schema.{is_some_and};
 
@@ -36,7 +36,7 @@ fn is_of_changed_type(old: &Table, name: &str, column: &Column) -> bool
 fn is_any_of_changed_type(old: &Table, columns: &[(Text, Column)]) -> bool
     ensures { result
         ≡ list_any (is_of_changed_type old.now)
-        (filter (λ c. not (is_own_column c.0)) columns.now) }
+        (without_own_columns columns.now) }
 {
     for (name, column) in columns {
         if !is_own(name.as_str()) && is_of_changed_type(old, name.as_str(), column) {

@@ -13,7 +13,8 @@ RisesBy outcome attempts old new = new ≡ old + attempts
 -- It rises by one with each attempt of the event.
 abbrev pub CountsTries : State → Choice → Event → ℕ → ℕ → Type 0
 CountsTries s c machine.Open old new = new ≡ old + attempts_of s c machine.Open
-CountsTries s c (machine.Take session message) old new = RisesBy (listed 1 c.outcomes).outcome (attempts_of s c (machine.Take session message)) old new
+CountsTries s c (machine.Take session message) old new =
+    RisesBy (listed 1 c.outcomes).outcome (attempts_of s c (machine.Take session message)) old new
 CountsTries s c (machine.Close session cause) old new = new ≡ old + attempts_of s c (machine.Close session cause)
 CountsTries s c machine.Tick old new = new ≡ old + attempts_of s c machine.Tick
 

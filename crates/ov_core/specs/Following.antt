@@ -34,13 +34,14 @@ pub record Timed (K D C : Type 0) : Type 0 where
   pub core : CoreState K D
   pub clock : C
 
--- these two
+-- the record of a core and its clock
 abbrev pub with_clock : {K D C : Type 0} → CoreState K D → C → Timed K D C
 with_clock core clock = record { core = core; clock = clock }
 
 -- The history leads from the state before it to the core's state, and ends with the entries that are kept. Of the frames that
 -- it sends to each session, `given` were handed out and the others wait.
-pub record Follows {K D : Type 0} (before : State) (history : List machine.Entry) (given : ℕ → List (List ℕ)) (core : CoreState K D) : Type 0 where
+pub record Follows {K D : Type 0} (before : State) (history : List machine.Entry) (given : ℕ → List (List ℕ))
+    (core : CoreState K D) : Type 0 where
   pub sent : List Sent
   pub legal : run before history ≡ Some (record { state = core.state; sent = sent })
   pub kept : Keeps core.kept history
@@ -57,7 +58,8 @@ pub record CountsWork {K D : Type 0} (old : CoreState K D) (entries : List machi
 -- If the core has followed a history and frames, it follows that history with these entries appended, and no frame is handed
 -- out. The newest of the entries kept before and of these are kept, and the work on these is counted.
 pub record Extends {K D : Type 0} (old : CoreState K D) (entries : List machine.Entry) (new : CoreState K D) : Type 0 where
-  pub follows : (before : State) (history : List machine.Entry) (given : ℕ → List (List ℕ)) → Follows before history given old → Follows before (history ++ entries) given new
+  pub follows : (before : State) (history : List machine.Entry) (given : ℕ → List (List ℕ))
+      → Follows before history given old → Follows before (history ++ entries) given new
   pub keeps : KeepsNewest old.kept entries new.kept
   pub counts : CountsWork old entries new
 

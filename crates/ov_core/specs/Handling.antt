@@ -53,19 +53,23 @@ pub record TrialState (K : Type 0) : Type 0 where
 
 -- The transaction completes: in every state over the database with these sessions, the machine reaches the state over the
 -- database as it is now, and what it sends waits after the frames that waited.
-pub record IsCompleted {K : Type 0} (asked : TrialRequest) (old : TrialState K) (o : Option Outcome) (new : TrialState K) : Type 0 where
+pub record IsCompleted {K : Type 0} (asked : TrialRequest) (old : TrialState K) (o : Option Outcome)
+    (new : TrialState K) : Type 0 where
   pub results : Items
   pub database : Database
   pub is : asked.outcome ≡ Completes results database
   pub sent : List Sent
-  pub comes : (s : State) → s.sessions ≡ asked.sessions → completes (with_db s old.database) asked.session asked.id results database (listed_of o) ≡ Some (record { state = with_db s new.database; sent = sent })
+  pub comes : (s : State) → s.sessions ≡ asked.sessions
+      → completes (with_db s old.database) asked.session asked.id results database (listed_of o)
+      ≡ Some (record { state = with_db s new.database; sent = sent })
   pub posts : PostsSent sent old.frames new.frames
 
 -- A try of a transaction: it completes; or it is blocked, or an allocation failed, and nothing is changed.
 abbrev pub IsTrial : {K : Type 0} → TrialRequest → TrialState K → Trial → TrialState K → Type 0
 IsTrial asked old (Done (Some outcome.NoMemory)) new = (new.database ≡ old.database) × HasSameFrames old.frames new.frames
 IsTrial asked old (Done o) new = IsCompleted asked old o new
-IsTrial asked old (Blocked timeout) new = (asked.outcome ≡ Waits timeout) × (new.database ≡ old.database) × HasSameFrames old.frames new.frames
+IsTrial asked old (Blocked timeout) new =
+    (asked.outcome ≡ Waits timeout) × (new.database ≡ old.database) × HasSameFrames old.frames new.frames
 
 -- what is listed of the try
 abbrev pub outcome_in : Trial → Option Outcome
@@ -77,7 +81,8 @@ outcome_in (Blocked timeout) = None
 -- if the message asks for a transaction, there is room for it to wait
 abbrev pub HasRoomToWait : {K : Type 0} → ℕ → ℕ → Message → Live K → Type 0
 HasRoomToWait moment session message live =
-    (id : Data) (operations : Items) → work_of (machine_state live moment) session message ≡ Transact id operations → many live.waiting < most_outstanding
+    (id : Data) (operations : Items) → work_of (machine_state live moment) session message ≡ Transact id operations
+    → many live.waiting < most_outstanding
 
 -- Nothing is changed but the count of attempts and what this session watches, and the same frames wait.
 pub record Stays {K : Type 0} (session : ℕ) (old new : Live K) : Type 0 where
@@ -101,7 +106,8 @@ work_at moment session work draws = record { moment = moment; session = session;
 -- the same transactions wait.
 pub record WorkIsDone {K : Type 0} (asked : WorkRequest) (old : Live K) (o : Option Outcome) (new : Live K) : Type 0 where
   pub sent : List Sent
-  pub works : works (machine_state old asked.moment) asked.session asked.draws (listed_of o) asked.work ≡ Some (record { state = machine_state new asked.moment; sent = sent })
+  pub works : works (machine_state old asked.moment) asked.session asked.draws (listed_of o) asked.work
+      ≡ Some (record { state = machine_state new asked.moment; sent = sent })
   pub posts : PostsSent sent old.outbox.frames new.outbox.frames
   pub sessions : new.sessions ≡ old.sessions
   pub untried : new.waiting.untried ≡ old.waiting.untried
@@ -130,7 +136,10 @@ pub record HasSameRest {K : Type 0} (old : Live K) (o : Option Outcome) (new : L
 
 -- Blocked on arrival, the transaction waits after the others with this timeout, or an allocation failed.
 abbrev pub WaitsIfRoom : {K : Type 0} → machine.Outstanding → Option ℕ → Live K → Option Outcome → Live K → Type 0
-WaitsIfRoom o timeout old None new = new ≡ record old { waiting = record old.waiting { outstanding = old.waiting.outstanding ++ record o { timeout = timeout } ∷ [] } }
+WaitsIfRoom o timeout old None new =
+    new ≡ record old {
+      waiting = record old.waiting { outstanding = old.waiting.outstanding ++ record o { timeout = timeout } ∷ [] };
+    }
 WaitsIfRoom o timeout old (Some outcome.NoMemory) new = new ≡ old
 WaitsIfRoom o timeout old (Some outcome.Committed) new = ⊥
 WaitsIfRoom o timeout old (Some outcome.Exhausted) new = ⊥
@@ -138,13 +147,21 @@ WaitsIfRoom o timeout old (Some outcome.Failed) new = ⊥
 
 -- the live state with this outbox, and without the transaction of the session whose id has this text
 abbrev pub without_text : {K : Type 0} → ℕ → List ℕ → Outbox → Live K → Live K
-without_text session text outbox live = record live { outbox = outbox; waiting = record live.waiting { outstanding = filter (λ o. not (has_text session text o)) live.waiting.outstanding } }
+without_text session text outbox live =
+    record live {
+      outbox = outbox;
+      waiting = record live.waiting
+          { outstanding = filter (λ o. not (has_text session text o)) live.waiting.outstanding };
+    }
 
 -- The transaction with this text is canceled: its answer is sent and it stops waiting, or an allocation failed.
 abbrev pub CancelsIfRoom : {K : Type 0} → ℕ → Data → List ℕ → Live K → Option Outcome → Live K → Type 0
 CancelsIfRoom session id text old None new =
-    PostsSent (to_session session (failure_tree id (codes "canceled") ∷ [])) old.outbox.frames new.outbox.frames × (new.outbox.queues ≡ old.outbox.queues) × (new ≡ without_text session text new.outbox old)
-CancelsIfRoom session id text old (Some outcome.NoMemory) new = HasSameFrames old.outbox.frames new.outbox.frames × (new.outbox.queues ≡ old.outbox.queues) × (new ≡ record old { outbox = new.outbox })
+    PostsSent (to_session session (failure_tree id (codes "canceled") ∷ [])) old.outbox.frames new.outbox.frames
+    × (new.outbox.queues ≡ old.outbox.queues) × (new ≡ without_text session text new.outbox old)
+CancelsIfRoom session id text old (Some outcome.NoMemory) new =
+    HasSameFrames old.outbox.frames new.outbox.frames × (new.outbox.queues ≡ old.outbox.queues)
+    × (new ≡ record old { outbox = new.outbox })
 CancelsIfRoom session id text old (Some outcome.Committed) new = ⊥
 CancelsIfRoom session id text old (Some outcome.Exhausted) new = ⊥
 CancelsIfRoom session id text old (Some outcome.Failed) new = ⊥

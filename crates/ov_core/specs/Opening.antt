@@ -1,4 +1,4 @@
--- What comes of a keeper when a core is opened over it.
+-- How opening a core changes its keeper.
 use Rattle.std.specs.Prelude.{◌≡◌, ◌≢◌, ◌≤◌, [], Option, None, Ok, option_to_list}
 use Rattle.serde_json.specs.Written.{compact_text}
 use Rattle.ov_specs.specs.conversion.Converted.{stored_of}
@@ -27,8 +27,10 @@ module _ {K D : Type 0} (k : Ghosts K) (draws : D → Uuid → D → Type 0) (ke
     pub version : Option Uuid
     pub drawn : DrawsFrom draws source (option_to_list version) after
     pub another : k.is_honest database.keeper → version ≢ None → FindsAnother (k.leaves keeper) schema
-    pub held : k.is_honest database.keeper → (held : Stored) → k.leaves keeper held → opens_as schema version held ≡ Ok database.committed
-    pub left : k.is_honest database.keeper → LeavesOpened (k.leaves keeper) (k.leaves database.keeper) (opens_as schema version) schema database.committed
+    pub held : k.is_honest database.keeper → (held : Stored) → k.leaves keeper held
+        → opens_as schema version held ≡ Ok database.committed
+    pub left : k.is_honest database.keeper
+        → LeavesOpened (k.leaves keeper) (k.leaves database.keeper) (opens_as schema version) schema database.committed
     pub honest : k.is_honest database.keeper → k.is_honest keeper
 
   -- the core has that database, no session and no history, and an open now finds the database, in format 2
@@ -36,8 +38,14 @@ module _ {K D : Type 0} (k : Ghosts K) (draws : D → Uuid → D → Type 0) (ke
     pub start : Follows (opening schema core.state.database) [] none_given core
     pub none_open : core.open_sessions ≡ []
     pub schema_is : core.state.schema ≡ schema
-    pub opens : OpensDatabase (record { schema = schema; committed = core.state.database; sealed = None; keeper = core.keeper }) core.source
-    pub found : k.is_honest core.keeper → (held : Stored) → k.leaves core.keeper held → held ≡ stored_of schema core.state.database
+    pub opens : OpensDatabase (record {
+      schema = schema;
+      committed = core.state.database;
+      sealed = None;
+      keeper = core.keeper;
+    }) core.source
+    pub found : k.is_honest core.keeper → (held : Stored) → k.leaves core.keeper held
+        → held ≡ stored_of schema core.state.database
 
   -- No core was opened: an open with or without a conversion, as above, was refused, or the keeper had a fault of its own.
   -- Without a conversion the fault is not `SchemaDiffers`: that one leads to a conversion.
@@ -49,10 +57,12 @@ module _ {K D : Type 0} (k : Ghosts K) (draws : D → Uuid → D → Type 0) (ke
     pub another : k.is_honest refused.keeper → version ≢ None → FindsAnother (k.leaves keeper) schema
     pub kinds : IsFaultAs version refused.fault
     pub plain : version ≡ None → refused.fault ≢ SchemaDiffers
-    pub fault : k.is_honest refused.keeper → (held : Stored) → k.leaves keeper held → TellsRefusal (opens_as schema version held) refused.fault
+    pub fault : k.is_honest refused.keeper → (held : Stored) → k.leaves keeper held
+        → TellsRefusal (opens_as schema version held) refused.fault
     -- if the device failed, the keeper's count of failures rose in this call, or was at its maximum before
     pub cause : refused.fault ≡ Keeping Device → HasFailed (k.failed keeper) (k.failed refused.keeper)
     pub counts : k.failed keeper ≤ k.failed refused.keeper
-    pub left : k.is_honest refused.keeper → LeavesUnopened (k.leaves keeper) (k.leaves refused.keeper) (opens_as schema version) schema refused.fault
+    pub left : k.is_honest refused.keeper
+        → LeavesUnopened (k.leaves keeper) (k.leaves refused.keeper) (opens_as schema version) schema refused.fault
     pub format : k.format refused.keeper ≡ k.format keeper
     pub honest : k.is_honest refused.keeper → k.is_honest keeper

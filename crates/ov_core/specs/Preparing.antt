@@ -37,7 +37,8 @@ HasPrepared frames old false new = Unit {0}
 pub record PreparesFrames (frames : List (ℕ × List ℕ)) (old : Replying) (ready : Bool) (new : Replying) : Type 0 where
   pub prepared : HasPrepared frames old ready new
   pub waits : HasSameFrames old.queues new.queues
-  pub places : (other base : ℕ) → places_for other old.queues ≡ base + count_for other old.prepared → places_for other new.queues ≡ base + count_for other new.prepared
+  pub places : (other base : ℕ) → places_for other old.queues ≡ base + count_for other old.prepared
+      → places_for other new.queues ≡ base + count_for other new.prepared
   pub same : new ≡ record old { queues = new.queues; prepared = new.prepared }
 
 -- the frames of what is to be sent are prepared, or an allocation failed
@@ -46,7 +47,8 @@ PreparesMore sent old ready new = PreparesFrames (map posted sent) old ready new
 
 -- the updates that the monitors of one session receive, by its serial
 abbrev pub updates_to_one : Database → Database → Watching → ℕ → List Sent
-updates_to_one before after watching serial = to_session serial (map update_notification (all_updates before after (monitors_at serial watching)))
+updates_to_one before after watching serial =
+    to_session serial (map update_notification (all_updates before after (monitors_at serial watching)))
 
 -- those that the monitors of these sessions receive, session by session
 abbrev pub updates_to : Database → Database → Watching → List ℕ → List Sent
@@ -55,11 +57,14 @@ updates_to before after watching serials = flat_map (updates_to_one before after
 -- what is sent if a commit is kept: the updates, then the reply
 abbrev pub frames_of_commit : {K : Type 0} → Replying → KeptDatabase K → Delta → Items → List (ℕ × List ℕ)
 frames_of_commit old db delta results =
-    map posted (updates_sent db.committed (applied delta db.committed) (machine_sessions old.audience.watchers.now old.audience.sessions.now.open_sessions))
+    map posted
+    (updates_sent db.committed (applied delta db.committed)
+    (machine_sessions old.audience.watchers.now old.audience.sessions.now.open_sessions))
     ++ (old.session, frame (reply_tree old.id.now (array results))) ∷ []
 
 -- all of it is prepared, and the other replies are at hand
-pub record IsPrepared {K : Type 0} (old : Replying) (db : KeptDatabase K) (delta : Delta) (replies : Replies) (new : Replying) : Type 0 where
+pub record IsPrepared {K : Type 0} (old : Replying) (db : KeptDatabase K) (delta : Delta) (replies : Replies)
+    (new : Replying) : Type 0 where
   pub prepared : new.prepared ≡ old.prepared ++ frames_of_commit old db delta replies.kept
   pub exhausted : new.exhausted ≡ frame (reply_tree old.id.now (array (and_item replies.kept replies.exhausted)))
   pub failed : new.failed ≡ frame (reply_tree old.id.now (array (and_item replies.kept replies.failed)))
@@ -70,10 +75,12 @@ IsPreparedWhere old db delta replies true new = IsPrepared old db delta replies 
 IsPreparedWhere old db delta replies false new = Unit {0}
 
 -- As above; the same frames wait, and there is a place for each prepared frame.
-pub record Prepares {K : Type 0} (old : Replying) (db : KeptDatabase K) (delta : Delta) (replies : Replies) (ready : Bool) (new : Replying) : Type 0 where
+pub record Prepares {K : Type 0} (old : Replying) (db : KeptDatabase K) (delta : Delta) (replies : Replies)
+    (ready : Bool) (new : Replying) : Type 0 where
   pub prepared : IsPreparedWhere old db delta replies ready new
   pub waits : HasSameFrames old.queues new.queues
-  pub places : (other base : ℕ) → places_for other old.queues ≡ base + count_for other old.prepared → places_for other new.queues ≡ base + count_for other new.prepared
+  pub places : (other base : ℕ) → places_for other old.queues ≡ base + count_for other old.prepared
+      → places_for other new.queues ≡ base + count_for other new.prepared
 
 -- ---- what an answer of the store leads to
 
@@ -85,12 +92,15 @@ outcome_after store.Failed = outcome.Failed
 
 -- The last prepared frame is replaced by this one, which alone is sent.
 abbrev pub SendsInstead : List (ℕ × List ℕ) → List ℕ → WaitingFrames → WaitingFrames → Type 0
-SendsInstead prepared frame old new = (front : List (ℕ × List ℕ)) (session : ℕ) (former : List ℕ) → prepared ≡ front ++ (session, former) ∷ [] → PostsFrame session frame old new
+SendsInstead prepared frame old new =
+    (front : List (ℕ × List ℕ)) (session : ℕ) (former : List ℕ) → prepared ≡ front ++ (session, former) ∷ []
+    → PostsFrame session frame old new
 
 -- By the store's answer, all that was prepared is sent, or one of these frames in place of the last; if it was not asked,
 -- nothing is sent.
 abbrev pub SendsPrepared : Tried → List (ℕ × List ℕ) → List ℕ → List ℕ → WaitingFrames → WaitingFrames → Type 0
-SendsPrepared (Stored store.Kept) prepared exhausted failed old new = (sent : List Sent) → prepared ≡ map posted sent → PostsSent sent old new
+SendsPrepared (Stored store.Kept) prepared exhausted failed old new =
+    (sent : List Sent) → prepared ≡ map posted sent → PostsSent sent old new
 SendsPrepared (Stored store.Exhausted) prepared exhausted failed old new = SendsInstead prepared exhausted old new
 SendsPrepared (Stored store.Failed) prepared exhausted failed old new = SendsInstead prepared failed old new
 SendsPrepared (Answer results) prepared exhausted failed old new = HasSameFrames old new

@@ -50,14 +50,19 @@ pub record SettlesSoFar {K : Type 0} (failed : K → ℕ) (moment first : ℕ) (
   pub made : List machine.Attempt
   pub lists : map attempt_view now.listed ≡ map attempt_view from.listed ++ made
   pub sent : List Sent
-  pub reaches : Reaches (machine_state from.live moment) first made (at_point (machine_state now.live moment) sent number now.live.waiting.untried)
+  pub reaches : Reaches (machine_state from.live moment) first made
+      (at_point (machine_state now.live moment) sent number now.live.waiting.untried)
   pub posts : PostsSent sent from.live.outbox.frames now.live.outbox.frames
   pub asks : AsksKeeper made (keeper_state failed from.live.database) (keeper_state failed now.live.database)
   pub left : IsLeft from.live.sessions.open_sessions now.live.sessions.open_sessions
   pub tries : now.live.tries + first ≡ from.live.tries + number
   -- so the number never exceeds that of a first try and one for each pair of those that waited
-  pub few : number + number + (length now.live.waiting.untried + length now.live.waiting.untried) + many now.live.waiting * many now.live.waiting
-      ≤ first + first + (length from.live.waiting.outstanding + length from.live.waiting.outstanding * length from.live.waiting.outstanding) + many now.live.waiting
+  pub few : number + number + (length now.live.waiting.untried + length now.live.waiting.untried)
+      + many now.live.waiting * many now.live.waiting
+      ≤ first + first
+      + (length from.live.waiting.outstanding
+      + length from.live.waiting.outstanding * length from.live.waiting.outstanding)
+      + many now.live.waiting
 
 -- The waiting transactions are settled, beginning with attempt number `first`.
 pub record SettlesAll {K : Type 0} (failed : K → ℕ) (moment first : ℕ) (old new : SettlingState K) : Type 0 where
@@ -65,7 +70,12 @@ pub record SettlesAll {K : Type 0} (failed : K → ℕ) (moment first : ℕ) (ol
   pub lists : map attempt_view new.listed ≡ map attempt_view old.listed ++ made
   pub sent : List Sent
   pub next : ℕ
-  pub settles : settle (machine_state old.live moment) first made ≡ Some (record { tried = record { stepped = record { state = machine_state new.live moment; sent = sent }; others = [] }; next = next; has_changed = false })
+  pub settles : settle (machine_state old.live moment) first made
+      ≡ Some (record {
+        tried = record { stepped = record { state = machine_state new.live moment; sent = sent }; others = [] };
+        next = next;
+        has_changed = false;
+      })
   pub posts : PostsSent sent old.live.outbox.frames new.live.outbox.frames
   pub asks : AsksKeeper made (keeper_state failed old.live.database) (keeper_state failed new.live.database)
   pub left : IsLeft old.live.sessions.open_sessions new.live.sessions.open_sessions
@@ -78,9 +88,11 @@ abbrev pub choice_of : ℕ → List Uuid → List Attempt → machine.Choice
 choice_of moment draws attempts = record { moment = moment; draws = draws; outcomes = map attempt_view attempts }
 
 -- The result of an event with this choice.
-pub record ComesTo {K : Type 0} (failed : K → ℕ) (choice : machine.Choice) (event : machine.Event) (old new : Live K) : Type 0 where
+pub record ComesTo {K : Type 0} (failed : K → ℕ) (choice : machine.Choice) (event : machine.Event)
+    (old new : Live K) : Type 0 where
   pub sent : List Sent
-  pub happens : machine.happens (machine_state old choice.moment) choice event ≡ Some (record { state = machine_state new choice.moment; sent = sent })
+  pub happens : machine.happens (machine_state old choice.moment) choice event
+      ≡ Some (record { state = machine_state new choice.moment; sent = sent })
   pub posts : PostsSent sent old.outbox.frames new.outbox.frames
   pub asks : AsksKeeper choice.outcomes (keeper_state failed old.database) (keeper_state failed new.database)
   pub left : IsLeft old.sessions.open_sessions new.sessions.open_sessions

@@ -29,17 +29,21 @@ is_full s = has_no_room (length s.sessions) s.next
 -- The answer, by the event, the state before, the entry, and the state after. If memory runs out, a `Take` may be entered as
 -- a closing. It is answered `Closed` exactly if its session is not open afterwards.
 abbrev pub AnswersEvent : machine.Event → State → machine.Entry → State → Stepped → Type 0
-AnswersEvent machine.Open old entry new (answer.Opened session) = (entry.event ≡ machine.Open) × (session.serial ≡ old.next) × (session.key < most_sessions) × (is_full old ≡ false)
-AnswersEvent (machine.Take session message) old entry new answer.Done = (entry.event ≡ machine.Take session message) × (is_open new session ≡ true)
+AnswersEvent machine.Open old entry new (answer.Opened session) =
+    (entry.event ≡ machine.Open) × (session.serial ≡ old.next) × (session.key < most_sessions) × (is_full old ≡ false)
+AnswersEvent (machine.Take session message) old entry new answer.Done =
+    (entry.event ≡ machine.Take session message) × (is_open new session ≡ true)
 AnswersEvent (machine.Take session message) old entry new answer.Closed =
-    ((entry.event ≡ machine.Take session message) ⊎ (entry.event ≡ machine.Close session machine.Memory)) × (is_open new session ≡ false)
+    ((entry.event ≡ machine.Take session message) ⊎ (entry.event ≡ machine.Close session machine.Memory))
+    × (is_open new session ≡ false)
 AnswersEvent (machine.Close session cause) old entry new answer.Done = entry.event ≡ machine.Close session cause
 AnswersEvent machine.Tick old entry new answer.Done = entry.event ≡ machine.Tick
 AnswersEvent event old entry new stepped = ⊥
 
 -- A new session comes last, with a key that no open session has. The others that were open and still are keep their keys.
 abbrev pub KeepsKeys : {K D : Type 0} → CoreState K D → Stepped → CoreState K D → Type 0
-KeepsKeys old (answer.Opened session) new = IsFreeKey session.key old.open_sessions × (new.open_sessions ≡ old.open_sessions ++ session ∷ [])
+KeepsKeys old (answer.Opened session) new =
+    IsFreeKey session.key old.open_sessions × (new.open_sessions ≡ old.open_sessions ++ session ∷ [])
 KeepsKeys old stepped new = new.open_sessions ≡ still_open new.state old.open_sessions
 
 -- One entry was appended to those that were kept, and the newest of all are kept. It has this session, key and serial, or none.
@@ -56,7 +60,8 @@ StepAppends session old answer.Done new = AppendsEntry session old new
 StepAppends session old answer.Closed new = AppendsEntry session old new
 
 -- the entry of an event at the moment, with the identifiers that were drawn from the source (RFC 4122, 4.1.2)
-pub record IsEntered {K D : Type 0} (draws : D → Uuid → D → Type 0) (at : ℕ) (event : machine.Event) (old : CoreState K D) (stepped : Stepped) (new : CoreState K D) : Type 0 where
+pub record IsEntered {K D : Type 0} (draws : D → Uuid → D → Type 0) (at : ℕ) (event : machine.Event)
+    (old : CoreState K D) (stepped : Stepped) (new : CoreState K D) : Type 0 where
   pub entry : machine.Entry
   pub tells : AnswersEvent event old.state entry new.state stepped
   pub keys : KeepsKeys old stepped new
@@ -79,7 +84,8 @@ RefusesStep (machine.Close session cause) old fault.NotOpen = is_open old sessio
 RefusesStep event old fault = ⊥
 
 -- the event was entered, or it was refused and nothing is changed
-abbrev pub StepIs : {K D : Type 0} → (D → Uuid → D → Type 0) → ℕ → machine.Event → CoreState K D → Stepped → CoreState K D → Type 0
+abbrev pub StepIs : {K D : Type 0} → (D → Uuid → D → Type 0) → ℕ → machine.Event → CoreState K D → Stepped
+    → CoreState K D → Type 0
 StepIs draws at event old (answer.Refused fault) new = (new ≡ old) × RefusesStep event old.state fault
 StepIs draws at event old (answer.Opened session) new = IsEntered draws at event old (answer.Opened session) new
 StepIs draws at event old answer.Done new = IsEntered draws at event old answer.Done new
@@ -87,7 +93,8 @@ StepIs draws at event old answer.Closed new = IsEntered draws at event old answe
 
 -- the entry of a closing at a moment
 abbrev pub closing : ℕ → ℕ → machine.Cause → machine.Entry
-closing at session cause = record { event = machine.Close session cause; choice = record { moment = at; draws = []; outcomes = [] } }
+closing at session cause =
+    record { event = machine.Close session cause; choice = record { moment = at; draws = []; outcomes = [] } }
 
 -- The session was closed, nothing was drawn or tried, and the store was not asked. Its queue is dropped if no frame waits in
 -- it.

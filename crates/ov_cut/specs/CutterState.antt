@@ -25,4 +25,5 @@ pub record HasCut (stream : List ℕ) (given : List (List ℕ)) (cutter : Cutter
   pub messages : (cut stream).messages ≡ given
   pub rest : (cut stream).rest ≡ cutter.rest
   pub fault : fault_of_damage (cut stream).damage ≡ cutter.fault
-  pub place : cutter.fault ≡ None → (begins : ℕ) × (begins + length cutter.rest ≡ length stream) × (cutter.start ≡ capped_to_64_bits begins)
+  pub place : cutter.fault ≡ None
+      → (begins : ℕ) × (begins + length cutter.rest ≡ length stream) × (cutter.start ≡ capped_to_64_bits begins)

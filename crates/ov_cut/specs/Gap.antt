@@ -9,7 +9,8 @@ use Rattle.ov_cut.specs.declared.space.Gap.TheVariants as gap
 abbrev pub IsGap : List ℕ → Gap → Type 0
 IsGap text gap.Space = AllSpace text
 IsGap text (gap.Brace n) = (n < length text) × AllSpace (take n text) × (slice_index text n ≡ 123)
-IsGap text (gap.Stray n) = (n < length text) × AllSpace (take n text) × (is_space (slice_index text n) ≡ false) × (slice_index text n ≢ 123)
+IsGap text (gap.Stray n) =
+    (n < length text) × AllSpace (take n text) × (is_space (slice_index text n) ≡ false) × (slice_index text n ≢ 123)
 
 -- how many looks there were: at the white space, and at the byte that ends it
 abbrev pub LooksForGap : ℕ → List ℕ → Gap → ℕ → Type 0

@@ -12,7 +12,9 @@ use Rattle.ov_cut.specs.declared.message.Scan.{Scan}
 abbrev pub mode_after : Mode → ℕ → ℕ → Mode × ℕ
 mode_after Escaped depth x = (InLiteral, depth)
 mode_after InLiteral depth x = if x == 34 then (Outside, depth) else (if x == 92 then (Escaped, depth) else (InLiteral, depth))
-mode_after Outside depth x = if x == 34 then (InLiteral, depth) else (if x == 123 then (Outside, depth + 1) else (if x == 125 then (Outside, depth - 1) else (Outside, depth)))
+mode_after Outside depth x =
+    if x == 34 then (InLiteral, depth)
+    else (if x == 123 then (Outside, depth + 1) else (if x == 125 then (Outside, depth - 1) else (Outside, depth)))
 
 -- how the text without its literals goes on
 abbrev pub bare_in : Mode → List ℕ → Option (List ℕ)
@@ -40,13 +42,15 @@ IsLeftAs rest (Some scan) = IsBegunAs rest scan
 
 -- after this front the text brings these messages, and leaves this rest
 abbrev pub Brings : List ℕ → List ℕ → List (List ℕ) → List ℕ → Type 0
-Brings front text messages rest = (at : ℕ) → cut_from max_message at front text ≡ record { messages = messages; rest = rest; damage = None }
+Brings front text messages rest =
+    (at : ℕ) → cut_from max_message at front text ≡ record { messages = messages; rest = rest; damage = None }
 
 -- what becomes of a message that has begun with this front, if this text follows
 abbrev pub Finds : List ℕ → List ℕ → Found → Type 0
 Finds front text (found.Whole n) = (0 < n) × (n ≤ length text) × Brings front (take n text) ((front ++ take n text) ∷ []) []
 Finds front text (found.Begun scan) = IsBegunAs (front ++ text) scan × Brings front text [] (front ++ text)
-Finds front text found.TooLong = (at : ℕ) → cut_from max_message at front text ≡ record { messages = []; rest = []; damage = Some TooLong }
+Finds front text found.TooLong =
+    (at : ℕ) → cut_from max_message at front text ≡ record { messages = []; rest = []; damage = Some TooLong }
 
 -- how many looks there were: at each byte of the text up to the message's end
 abbrev pub LooksForEnd : ℕ → List ℕ → Found → ℕ → Type 0

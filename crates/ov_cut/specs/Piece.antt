@@ -22,14 +22,18 @@ KeepsMore old more (Err why) new = (why ≡ fault.Memory) × (new.looked ≡ old
 
 -- the message stands after the earlier ones, and none has begun after it; or an allocation failed
 abbrev pub GivesMessage : CutterState → List ℕ → List (List ℕ) → Result (Unit {0}) CutFault → CutterState → List (List ℕ) → Type 0
-GivesMessage old message before (Ok done) new after = (new ≡ record (advanced old (length message)) { rest = [] }) × (after ≡ before ++ message ∷ [])
+GivesMessage old message before (Ok done) new after =
+    (new ≡ record (advanced old (length message)) { rest = [] }) × (after ≡ before ++ message ∷ [])
 GivesMessage old message before (Err why) new after = (why ≡ fault.Memory) × (new.looked ≡ old.looked) × (after ≡ before)
 
 -- The cutter that was given a stream is given the next piece. It has then cut the longer stream, and given its
 -- messages; if an allocation failed, some are missing at the end. With a fault it stays as it is, and gives no more.
-pub record TakesPiece (old : CutterState) (before : List (List ℕ)) (piece : List ℕ) (new : CutterState) (after : List (List ℕ)) : Type 0 where
-  pub whole : (stream : List ℕ) (given : List (List ℕ)) → HasCut stream (given ++ before) old → new.fault ≢ Some fault.Memory → HasCut (stream ++ piece) (given ++ after) new
-  pub memory : (stream : List ℕ) (given : List (List ℕ)) → HasCut stream (given ++ before) old → BeginsAs (given ++ after) (cut (stream ++ piece)).messages
+pub record TakesPiece (old : CutterState) (before : List (List ℕ)) (piece : List ℕ) (new : CutterState)
+    (after : List (List ℕ)) : Type 0 where
+  pub whole : (stream : List ℕ) (given : List (List ℕ)) → HasCut stream (given ++ before) old
+      → new.fault ≢ Some fault.Memory → HasCut (stream ++ piece) (given ++ after) new
+  pub memory : (stream : List ℕ) (given : List (List ℕ)) → HasCut stream (given ++ before) old
+      → BeginsAs (given ++ after) (cut (stream ++ piece)).messages
   pub over : IsSome old.fault → (after ≡ before) × (new ≡ old)
 
 -- this many bytes of the piece were taken, or all of it if there is a fault, which the cutter then is to have

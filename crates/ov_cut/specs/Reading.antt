@@ -23,7 +23,8 @@ AreRead (Some Memory) messages a = BeginsAs messages a.messages
 
 -- These messages were read of a piece after this stream: with them, what the longer stream asks for was read. Without a fault
 -- the cutter was given that stream.
-pub record ReadsPiece (stream piece : List ℕ) (messages : List Message) (fault : Option StreamFault) (cutter : CutterState) : Type 0 where
+pub record ReadsPiece (stream piece : List ℕ) (messages : List Message) (fault : Option StreamFault)
+    (cutter : CutterState) : Type 0 where
   pub asks : AreRead fault ((asked stream).messages ++ messages) (asked (stream ++ piece))
   pub goes_on : fault ≡ None → IsFed (stream ++ piece) cutter
 
@@ -46,7 +47,9 @@ ReadsText text before (Err Memory) after = after ≡ before
 
 -- these messages were read of these texts, whatever texts and damage follow
 abbrev pub ReadsTexts : List (List ℕ) → List Message → Option StreamFault → Type 0
-ReadsTexts texts messages why = (others : List (List ℕ)) (damaged : Bool) → ReadsFront why messages (asked_of (texts ++ others) damaged) (asked_of others damaged)
+ReadsTexts texts messages why =
+    (others : List (List ℕ)) (damaged : Bool)
+    → ReadsFront why messages (asked_of (texts ++ others) damaged) (asked_of others damaged)
 
 -- why reading ended: by a text, or else by the cutter
 abbrev pub first_fault : Option StreamFault → Option CutFault → Option StreamFault

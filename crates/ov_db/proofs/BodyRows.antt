@@ -1,19 +1,19 @@
 -- A table's columns, each with its stored value, are the same if they are added one by one; and the row with them.
 use Rattle.std.proofs.Common.{◌≡◌, ℕ, List, [], ◌∷◌, Bool, true, false, cond, T, Option, Some, None, option_map, option_and_then, refl, sym, ap, subst, ◌∙◌}
 use Rattle.std.specs.Prelude.{not, if◌then◌else◌, Result, Ok, Err}
-use Rattle.std.specs.List.{filter}
-use Rattle.std.specs.FinMap.{empty, find, is_sorted, get, insert, entries, entries_sorted, from_entries, get-empty, get-insert, get-from_entries, same_map}
+use Rattle.std.specs.FinMap.{empty, is_sorted, get, insert, entries, entries_sorted, from_entries}
 use Rattle.std.specs.FinMap.Entries.{below_all}
+use Rattle.ov_specs.specs.operations.GivenRow.{with_values}
 use Rattle.ov_specs.specs.rows.Database.{Columns, Row}
 use Rattle.ov_specs.specs.rows.Held as stored
 use Rattle.ov_specs.specs.rows.Held.{Body, columns_stored, is_stored_as, row_held, row_if_stored, row_of_body, value_held}
 use Rattle.ov_specs.specs.rows.Lines.{LineKey}
-use Rattle.ov_specs.specs.rows.RowNames.{is_own_column}
+use Rattle.ov_specs.specs.rows.RowNames.{is_own_column, without_own_columns}
 use Rattle.ov_specs.specs.schema.SchemaTypes.{Column, Table, Schema, name_cmp}
 use Rattle.ov_specs.specs.values.Results.{all_results, in_front}
 use Rattle.ov_specs.specs.values.Uuid.{Uuid}
 use Rattle.ov_specs.specs.values.Value.{Datum}
-use Rattle.ov_specs.proofs.laws.Names.{name_cmp_total, name_exact, same_name, find-first_not_later, sorted_rest}
+use Rattle.ov_specs.proofs.laws.PutValues.{with_values-empty}
 use Rattle.ov_specs.proofs.laws.Truths.{both_hold, left_holds, right_holds}
 use Rattle.ov_db.specs.declared.fault.OpenFault.{OpenFault}
 use Rattle.ov_db.specs.declared.fault.OpenFault.TheVariants.{SchemaDiffers, BadBody, Broken, TypeChanged, NotConvertible, Keeping}
@@ -40,33 +40,6 @@ named_loaded name o (Err fault) is = not_loaded fault is
 abbrev Values : Type 0
 Values = List (List ℕ × Datum)
 
--- each value is put, in order
-abbrev put_all : Values → Columns → Columns
-put_all [] columns = columns
-put_all (v ∷ vs) columns = put_all vs (insert columns v.0 v.1)
-
-abbrev or_value : Option Datum → Option Datum → Option Datum
-or_value (Some datum) old = Some datum
-or_value None old = old
-
-in_turn : (b : Bool) (datum : Datum) (rest old : Option Datum) → (b ≡ true → rest ≡ None) → or_value rest (cond b (Some datum) old) ≡ or_value (cond b (Some datum) rest) old
-in_turn true datum rest old h = rw (h refl) refl
-in_turn false datum rest old h = refl
-
-get-put_all : (vs : Values) (columns : Columns) (q : List ℕ) → T (is_sorted name_cmp vs) → get (put_all vs columns) q ≡ or_value (find name_cmp q vs) (get columns q)
-get-put_all [] columns q h = refl
-get-put_all (v ∷ vs) columns q h =
-    get-put_all vs (insert columns v.0 v.1) q (sorted_rest v vs h) ∙ ap (or_value (find name_cmp q vs)) (get-insert name_cmp_total columns v.0 v.1 q)
-    ∙ in_turn (same_name q v.0) v.1 (find name_cmp q vs) (get columns q) (find-first_not_later v vs q h)
-
-or_nothing : (o : Option Datum) → or_value o None ≡ o
-or_nothing (Some datum) = refl
-or_nothing None = refl
-
-put_all-from : (vs : Values) → T (is_sorted name_cmp vs) → put_all vs empty ≡ from_entries vs
-put_all-from vs h = same_map name_cmp_total name_exact _ _ (λ q.
-    get-put_all vs empty q h ∙ ap (or_value (find name_cmp q vs)) (get-empty name_cmp q) ∙ or_nothing (find name_cmp q vs) ∙ sym (get-from_entries name_cmp_total vs q))
-
 -- these columns added to those before, each with its stored value, except for the columns that every row has by itself
 abbrev pub added_by : Body → List (List ℕ × Column) → Columns → Option Columns
 added_by body [] columns = Some columns
@@ -75,32 +48,29 @@ added_by body (c ∷ cs) columns =
     else option_and_then (λ v. added_by body cs (insert columns v.0 v.1)) (value_held body c)
 
 module _ (body : Body) where
-  abbrev kept : List (List ℕ × Column) → List (List ℕ × Column)
-  kept cs = filter (λ c. not (is_own_column c.0)) cs
-
   abbrev held_all : List (List ℕ × Column) → Option Values
-  held_all cs = all_results (value_held body) (kept cs)
+  held_all cs = all_results (value_held body) (without_own_columns cs)
 
   -- ---- the values that were added
 
-  one_more : (c : List ℕ × Column) (cs : List (List ℕ × Column)) (before : Columns) → ((more : Columns) → added_by body cs more ≡ option_map (λ vs. put_all vs more) (held_all cs))
-      → added_by body (c ∷ cs) before ≡ option_map (λ vs. put_all vs before) (held_all (c ∷ cs))
+  one_more : (c : List ℕ × Column) (cs : List (List ℕ × Column)) (before : Columns) → ((more : Columns) → added_by body cs more ≡ option_map (λ vs. with_values vs more) (held_all cs))
+      → added_by body (c ∷ cs) before ≡ option_map (λ vs. with_values vs before) (held_all (c ∷ cs))
   one_more c cs before next = by (is_own_column c.0)
     where
-      by_rest : (v : List ℕ × Datum) (r : Option Values) → option_map (λ vs. put_all vs (insert before v.0 v.1)) r ≡ option_map (λ vs. put_all vs before) (in_front (Some v) r)
+      by_rest : (v : List ℕ × Datum) (r : Option Values) → option_map (λ vs. with_values vs (insert before v.0 v.1)) r ≡ option_map (λ vs. with_values vs before) (in_front (Some v) r)
       by_rest v None = refl
       by_rest v (Some vs) = refl
 
-      by_value : (o : Option (List ℕ × Datum)) → option_and_then (λ v. added_by body cs (insert before v.0 v.1)) o ≡ option_map (λ vs. put_all vs before) (in_front o (held_all cs))
+      by_value : (o : Option (List ℕ × Datum)) → option_and_then (λ v. added_by body cs (insert before v.0 v.1)) o ≡ option_map (λ vs. with_values vs before) (in_front o (held_all cs))
       by_value None = refl
       by_value (Some v) = next (insert before v.0 v.1) ∙ by_rest v (held_all cs)
 
       by : (b : Bool) → cond b (added_by body cs before) (option_and_then (λ v. added_by body cs (insert before v.0 v.1)) (value_held body c))
-          ≡ option_map (λ vs. put_all vs before) (all_results (value_held body) (cond (not b) (c ∷ kept cs) (kept cs)))
+          ≡ option_map (λ vs. with_values vs before) (all_results (value_held body) (cond (not b) (c ∷ without_own_columns cs) (without_own_columns cs)))
       by true = next before
       by false = by_value (value_held body c)
 
-  added_all : (cs : List (List ℕ × Column)) (before : Columns) → added_by body cs before ≡ option_map (λ vs. put_all vs before) (held_all cs)
+  added_all : (cs : List (List ℕ × Column)) (before : Columns) → added_by body cs before ≡ option_map (λ vs. with_values vs before) (held_all cs)
   added_all [] before = refl
   added_all (c ∷ cs) before = one_more c cs before (λ more. added_all cs more)
 
@@ -119,7 +89,7 @@ module _ (body : Body) where
       by_value None k = cc
       by_value (Some datum) k = by_rest datum (held_all cs) refl k
 
-      by : (b : Bool) → all_results (value_held body) (cond (not b) (c ∷ kept cs) (kept cs)) ≡ Some vs → P vs
+      by : (b : Bool) → all_results (value_held body) (cond (not b) (c ∷ without_own_columns cs) (without_own_columns cs)) ≡ Some vs → P vs
       by true k = others vs k
       by false k = by_value _ k
 
@@ -140,9 +110,9 @@ module _ (body : Body) where
   pub columns_added : (table : Table) → columns_stored body table ≡ added_by body (entries table.columns) empty
   columns_added table = sym (added_all (entries table.columns) empty ∙ by (held_all (entries table.columns)) refl)
     where
-      by : (o : Option Values) → held_all (entries table.columns) ≡ o → option_map (λ vs. put_all vs empty) o ≡ option_map from_entries o
+      by : (o : Option Values) → held_all (entries table.columns) ≡ o → option_map (λ vs. with_values vs (empty {R = name_cmp})) o ≡ option_map from_entries o
       by None is = refl
-      by (Some vs) is = ap Some (put_all-from vs (ascend (entries table.columns) vs is (entries_sorted table.columns)))
+      by (Some vs) is = ap Some (with_values-empty vs (ascend (entries table.columns) vs is (entries_sorted table.columns)))
 
 -- ---- the row
 

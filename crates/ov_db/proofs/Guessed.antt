@@ -1,6 +1,6 @@
 -- A row whose values are those of a table's columns is what is stored as its text, or as its cells.
 use Rattle.std.proofs.Common.{◌≡◌, ℕ, List, [], ◌∷◌, map, zip, ◌&&◌, Bool, true, false, cond, T, Option, Some, None, option_map, option_and_then, refl, sym, ap, ◌∙◌}
-use Rattle.std.specs.Prelude.{not, filter, if◌then◌else◌}
+use Rattle.std.specs.Prelude.{not, if◌then◌else◌}
 use Rattle.std.specs.Cmp.Lexicographic.{pointwise}
 use Rattle.std.proofs.lemmas.Bool.{and_parts}
 use Rattle.std.specs.FinMap.{find, is_sorted, get, keys, values, entries, entries_sorted, get-entries}
@@ -8,11 +8,10 @@ use Rattle.std.specs.FinMap.Entries.{below_all}
 use Rattle.std.specs.Str.{bytes_eq}
 use Rattle.serde_json.specs.Find as json
 use Rattle.serde_json.specs.Written.{compact_text}
-use Rattle.ov_specs.specs.rows.RowNames.{is_own_column}
 use Rattle.ov_specs.specs.rows.Database.{Columns}
 use Rattle.ov_specs.specs.rows.Cells.{Cells, cells_of}
 use Rattle.ov_specs.specs.rows.Held.{OneText, OfCells, row_of_body, tree_stored}
-use Rattle.ov_specs.specs.rows.RowNames.{row_names, without_own}
+use Rattle.ov_specs.specs.rows.RowNames.{row_names, without_own, is_own_column, without_own_columns}
 use Rattle.ov_specs.specs.rows.Suits.{is_value_for, suits_column, SuitsTable}
 use Rattle.ov_specs.specs.schema.SchemaTypes.{Column, Table, name_cmp}
 use Rattle.ov_specs.specs.values.Uuid.{Uuid}
@@ -62,7 +61,7 @@ are_rest_for (c ∷ cs) [] = if is_own_column c.0 then are_rest_for cs [] else f
 are_rest_for (c ∷ cs) (v ∷ vs) = if is_own_column c.0 then are_rest_for cs (v ∷ vs) else (is_value_for c.1 v && are_rest_for cs vs)
 
 abbrev are_kept_for : List (List ℕ × Column) → List Datum → Bool
-are_kept_for cs vs = pointwise (λ c datum. is_value_for c.1 datum) (filter (λ c. not (is_own_column c.0)) cs) vs
+are_kept_for cs vs = pointwise (λ c datum. is_value_for c.1 datum) (without_own_columns cs) vs
 
 rest_are_kept : (cs : List (List ℕ × Column)) (vs : List Datum) → are_kept_for cs vs ≡ are_rest_for cs vs
 rest_are_kept [] [] = refl
@@ -70,13 +69,13 @@ rest_are_kept [] (v ∷ vs) = refl
 rest_are_kept (c ∷ cs) [] = by (is_own_column c.0) (rest_are_kept cs [])
   where
     by : (b : Bool) → are_kept_for cs [] ≡ are_rest_for cs []
-        → pointwise (λ c datum. is_value_for c.1 datum) (cond (not b) (c ∷ filter (λ c. not (is_own_column c.0)) cs) (filter (λ c. not (is_own_column c.0)) cs)) [] ≡ cond b (are_rest_for cs []) false
+        → pointwise (λ c datum. is_value_for c.1 datum) (cond (not b) (c ∷ without_own_columns cs) (without_own_columns cs)) [] ≡ cond b (are_rest_for cs []) false
     by true rest = rest
     by false rest = refl
 rest_are_kept (c ∷ cs) (v ∷ vs) = by (is_own_column c.0) (rest_are_kept cs (v ∷ vs)) (rest_are_kept cs vs)
   where
     by : (b : Bool) → are_kept_for cs (v ∷ vs) ≡ are_rest_for cs (v ∷ vs) → are_kept_for cs vs ≡ are_rest_for cs vs
-        → pointwise (λ c datum. is_value_for c.1 datum) (cond (not b) (c ∷ filter (λ c. not (is_own_column c.0)) cs) (filter (λ c. not (is_own_column c.0)) cs)) (v ∷ vs) ≡ cond b (are_rest_for cs (v ∷ vs)) (is_value_for c.1 v && are_rest_for cs vs)
+        → pointwise (λ c datum. is_value_for c.1 datum) (cond (not b) (c ∷ without_own_columns cs) (without_own_columns cs)) (v ∷ vs) ≡ cond b (are_rest_for cs (v ∷ vs)) (is_value_for c.1 v && are_rest_for cs vs)
     by true all others = all
     by false all others = ap (λ b. is_value_for c.1 v && b) others
 

@@ -40,4 +40,5 @@ pub record AreKept (schema : Schema) (committed : Database) (sealed : Option Dat
 abbrev pub MayFindRows : (Stored → Type 0) → Schema → Database → Option Database → Type 0
 MayFindRows leaves schema committed sealed =
     (held : Stored) → leaves held
-    → (open_of schema held ≡ Ok committed) ⊎ ((database : Database) × (sealed ≡ Some database) × (open_of schema held ≡ Ok database))
+    → (open_of schema held ≡ Ok committed)
+    ⊎ ((database : Database) × (sealed ≡ Some database) × (open_of schema held ≡ Ok database))

@@ -23,7 +23,8 @@ cells_entry line = ((line.table, line.id), (line.version, OfCells (cells_view li
 
 -- the rows with the one that is stored as this, if they have none with its key yet
 abbrev pub with_line : Schema → LineKey × RowBody → Database → Option Database
-with_line schema entry rows = if contains_key rows entry.0 then Some rows else option_map (insert rows entry.0) (row_stored schema entry.0 entry.1)
+with_line schema entry rows =
+    if contains_key rows entry.0 then Some rows else option_map (insert rows entry.0) (row_stored schema entry.0 entry.1)
 
 -- the rows with those that are stored as these; if two of them have the same key, the first counts
 abbrev pub with_lines : Schema → List (LineKey × RowBody) → Database → Option Database

@@ -17,7 +17,8 @@ use Rattle.ov_db.specs.declared.fault.OpenFault.TheVariants.{SchemaDiffers, BadB
 -- What an open without a conversion gives. Another text than the schema's is refused; under the schema's own, `opening_of`
 -- does not look at the version.
 abbrev pub open_of : Schema → Stored → Result Database OpenRefusal
-open_of schema held = if bytes_eq held.schema (compact_text schema.tree) then opening_of schema [] held else Err refusal.SchemaDiffers
+open_of schema held =
+    if bytes_eq held.schema (compact_text schema.tree) then opening_of schema [] held else Err refusal.SchemaDiffers
 
 -- what an open gives, with a conversion in a commit of this version, or without one
 abbrev pub opens_as : Schema → Option Uuid → Stored → Result Database OpenRefusal
@@ -73,7 +74,8 @@ abbrev pub IsOutdated : Schema → Stored → Type 0
 IsOutdated schema held = (format_of held.lines ≡ 1) ⊎ (held.schema ≢ compact_text schema.tree)
 
 -- what is found is the database as the open wrote it, over something outdated that opens as the database
-pub record IsRenewed (old : Stored → Type 0) (opens : Stored → Result Database OpenRefusal) (schema : Schema) (database : Database) (found : Stored) : Type 0 where
+pub record IsRenewed (old : Stored → Type 0) (opens : Stored → Result Database OpenRefusal) (schema : Schema)
+    (database : Database) (found : Stored) : Type 0 where
   pub before : Stored
   pub was : old before
   pub outdated : IsOutdated schema before
@@ -81,13 +83,16 @@ pub record IsRenewed (old : Stored → Type 0) (opens : Stored → Result Databa
   pub now : found ≡ stored_of schema database
 
 -- what is found now might have been found before, or is the database, written anew
-abbrev pub LeavesOpened : (Stored → Type 0) → (Stored → Type 0) → (Stored → Result Database OpenRefusal) → Schema → Database → Type 0
+abbrev pub LeavesOpened : (Stored → Type 0) → (Stored → Type 0) → (Stored → Result Database OpenRefusal) → Schema
+    → Database → Type 0
 LeavesOpened old new opens schema database = (found : Stored) → new found → old found ⊎ IsRenewed old opens schema database found
 
 -- what is found now might have been found before; or the device failed, and it is a database, written anew
-abbrev pub LeavesUnopened : (Stored → Type 0) → (Stored → Type 0) → (Stored → Result Database OpenRefusal) → Schema → OpenFault → Type 0
+abbrev pub LeavesUnopened : (Stored → Type 0) → (Stored → Type 0) → (Stored → Result Database OpenRefusal) → Schema
+    → OpenFault → Type 0
 LeavesUnopened old new opens schema fault =
-    (found : Stored) → new found → old found ⊎ ((fault ≡ Keeping Device) × ((database : Database) × IsRenewed old opens schema database found))
+    (found : Stored) → new found
+    → old found ⊎ ((fault ≡ Keeping Device) × ((database : Database) × IsRenewed old opens schema database found))
 
 -- ---- for private clauses
 

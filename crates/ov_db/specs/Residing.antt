@@ -22,7 +22,9 @@ IsResident schema database resident = (resident.rows ≡ database) × IsBeside s
 
 -- nothing is reserved yet
 abbrev pub IsNoRoom : Room → Type 0
-IsNoRoom room = (room.added.items ≡ []) × (room.links.added.items ≡ []) × (room.links.gone.items ≡ []) × (room.indexes.added.items ≡ []) × (room.indexes.gone.items ≡ [])
+IsNoRoom room =
+    (room.added.items ≡ []) × (room.links.added.items ≡ []) × (room.links.gone.items ≡ [])
+    × (room.indexes.added.items ≡ []) × (room.indexes.gone.items ≡ [])
 
 -- without what was added to reserve space, everything is that of the database
 pub record LeadsBack (schema : Schema) (database : Database) (room : Room) (resident : Resident) : Type 0 where

@@ -28,7 +28,8 @@ row_cells row = (row.version, OfCells (cells_of row.columns))
 
 -- each row of the database is what its cells read back as
 abbrev pub AllReadBack : Schema → Database → Type 0
-AllReadBack schema database = (key : LineKey) (row : Row) → get database key ≡ Some row → row_stored schema key (row_cells row) ≡ Some row
+AllReadBack schema database =
+    (key : LineKey) (row : Row) → get database key ≡ Some row → row_stored schema key (row_cells row) ≡ Some row
 
 -- each row of the database is a row of the schema, and what its cells read back as
 pub record KeepsRows (schema : Schema) (database : Database) : Type 0 where

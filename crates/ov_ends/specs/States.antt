@@ -28,7 +28,8 @@ pub record SinkState : Type 0 where
 
 -- these four
 abbrev pub sink_state : List ℕ → Option (List ℕ) → Bool → ℕ → SinkState
-sink_state written contents is_flushed faults = record { written = written; contents = contents; is_flushed = is_flushed; faults = faults }
+sink_state written contents is_flushed faults =
+    record { written = written; contents = contents; is_flushed = is_flushed; faults = faults }
 
 -- those of a sink
 abbrev pub sink_of : {W : Type 0} → sink.Ghosts W → W → SinkState

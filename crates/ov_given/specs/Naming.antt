@@ -17,7 +17,9 @@ pub record Naming : Type 0 where
 
 -- both as a pair
 abbrev pub naming_code : Coded Naming
-naming_code = code_by (List Uuid × Items) (coded× (coded_list (coded_list coded_ℕ)) items_code) (λ n. (n.ids, n.operations)) (λ p. record { ids = p.0; operations = p.1 }) (λ _. refl)
+naming_code =
+    code_by (List Uuid × Items) (coded× (coded_list (coded_list coded_ℕ)) items_code) (λ n. (n.ids, n.operations))
+    (λ p. record { ids = p.0; operations = p.1 }) (λ _. refl)
 
 -- the place that a map has for a name
 abbrev pub place_at : BTreeMap (Bor (List ℕ)) ℕ → List ℕ → Option ℕ

@@ -68,7 +68,8 @@ fn mutated_value(alloc: Global, mutation: &Mutation<'_>, datum: &Datum) -> Resul
     }
 }
 
-/// What a mutation makes of the columns of a row: its own column is mutated, and the others stay.
+/// What a mutation makes of the columns of a row: its own column is mutated, and the others stay. A row of its table has each
+/// column that can be mutated, so the first case does not arise.
 fn column_mutated(
     alloc: Global,
     mutation: &Mutation<'_>,

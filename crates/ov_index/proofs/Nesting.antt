@@ -1,24 +1,17 @@
 -- Maps nested in a map as one map by both keys.
-use Rattle.std.proofs.Common.{◌≡◌, List, [], ◌∷◌, ◌++◌, map, Bool, true, false, cond, T, ◌||◌, Option, Some, None, refl, sym, ap, subst, ◌∙◌, Ordering, Less, Equal, Greater}
+use Rattle.std.proofs.Common.{◌≡◌, List, [], ◌∷◌, ◌++◌, map, Bool, true, false, cond, T, ◌||◌, Some, None, refl, sym, ap, subst, ◌∙◌, Ordering, Less, Equal, Greater}
 use Rattle.std.specs.Prelude.{option_and_then}
 use Rattle.std.specs.Cmp.{IsTotalOrder, eq_by_cmp_equiv}
 use Rattle.std.specs.FinMap.{FinMap, IsAntisymmetric, find, is_sorted, get, entries, entries_sorted, from_sorted, get-from_sorted, get-entries, entries-from_sorted}
 use Rattle.std.specs.FinMap.Entries.{below_all}
 use Rattle.std.specs.List.{list_any}
+use Rattle.std.specs.Option.{option_or}
 use Rattle.std.proofs.lemmas.List.Folds.{list_any-append}
 use Rattle.std.specs.Ordering.{eq_by_cmp, is_eq, is_lt, ordering_then}
 use Rattle.ov_index.specs.Nested.{seen, all_entries}
 use Rattle.ov_index.proofs.SeenKeys.{by_seen, found_at}
+use Rattle.ov_specs.proofs.laws.PutValues.{option_or-none}
 use Rattle.ov_specs.proofs.laws.Truths.{both_hold, left_holds, right_holds, less_is, equal_is, not_tied}
-
--- the first of two that there is
-abbrev or_else : {X : Type 0} → Option X → Option X → Option X
-or_else (Some x) other = Some x
-or_else None other = other
-
-or_else-none : {X : Type 0} (o : Option X) → or_else o None ≡ o
-or_else-none None = refl
-or_else-none (Some x) = refl
 
 below_both : {K X : Type 0} (Q : K → K → Ordering) (k : K) (xs ys : List (K × X)) → T (below_all Q k xs) → T (below_all Q k ys) → T (below_all Q k (xs ++ ys))
 below_both Q k [] ys h p = p
@@ -82,12 +75,12 @@ module _ {A B C K X : Type 0} (see : A → B) (R : B → B → Ordering) (S : C 
         by Equal p = cc
         by Greater p = refl
 
-    find_within : (n : B) (es : List (C × X)) → R b n ≡ Equal → find Q (join b c) (under n es ++ ys) ≡ or_else (find S c es) (find Q (join b c) ys)
+    find_within : (n : B) (es : List (C × X)) → R b n ≡ Equal → find Q (join b c) (under n es ++ ys) ≡ option_or (find S c es) (find Q (join b c) ys)
     find_within n [] h = refl
     find_within n (e ∷ es) h =
         ap (λ o. cond (is_eq o) (Some e.1) (find Q (join b c) (under n es ++ ys))) (law b n c e.0 ∙ ap (λ o. ordering_then o (S c e.0)) h)
         ∙ ap (cond (is_eq (S c e.0)) (Some e.1)) (find_within n es h)
-        ∙ (elim (is_eq (S c e.0)) as (λ t. cond t (Some e.1) (or_else (find S c es) (find Q (join b c) ys)) ≡ or_else (cond t (Some e.1) (find S c es)) (find Q (join b c) ys)) [
+        ∙ (elim (is_eq (S c e.0)) as (λ t. cond t (Some e.1) (option_or (find S c es) (find Q (join b c) ys)) ≡ option_or (cond t (Some e.1) (find S c es)) (find Q (join b c) ys)) [
           | true ↦ refl
           | false ↦ refl
         ])
@@ -108,8 +101,8 @@ module _ {A B C K X : Type 0} (see : A → B) (R : B → B → Ordering) (S : C 
         by others true is =
             let tied = equal_is _ is in
             find_within b c (all ms) (see m.0) (entries m.1) tied
-            ∙ ap (or_else (find S c (entries m.1))) (ap (λ n. find Q (join n c) (all ms)) (exact b (see m.0) tied) ∙ find_earlier m.0 c ms (left_holds _ _ h))
-            ∙ or_else-none _ ∙ sym (get-entries m.1 c)
+            ∙ ap (option_or (find S c (entries m.1))) (ap (λ n. find Q (join n c) (all ms)) (exact b (see m.0) tied) ∙ find_earlier m.0 c ms (left_holds _ _ h))
+            ∙ option_or-none _ ∙ sym (get-entries m.1 c)
 
     -- what is at a key is what is in its map
     pub get_nested : (ms : List (A × FinMap S X)) (b : B) (c : C) → T (is_sorted (by_seen see R) ms) → get (from_sorted {R = Q} (all ms)) (join b c) ≡ option_and_then (λ m. get m c) (found_at see R b ms)

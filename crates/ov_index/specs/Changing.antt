@@ -17,10 +17,12 @@ are_any_alike schema rows = list_any (has_duplicates rows) (entries schema.table
 
 -- without the entries that go, the indexes are those of the rows after the changes
 abbrev pub IsPlaced : Schema → List (LineKey × Option Row) → Database → List IndexEntry → Indexes → Type 0
-IsPlaced schema changes before gone indexes = (after : Database) → IsAfter changes before after → AreIndexesOf schema after (without_entries gone indexes)
+IsPlaced schema changes before gone indexes =
+    (after : Database) → IsAfter changes before after → AreIndexesOf schema after (without_entries gone indexes)
 
 -- if the indexes are those of rows with no two alike, this says whether two rows are alike after the changes
 abbrev pub TellsAlike : Schema → Indexes → List (LineKey × Option Row) → Bool → Type 0
 TellsAlike schema indexes changes alike =
-    (before after : Database) → AreIndexesOf schema before indexes → are_any_alike schema before ≡ false → IsAfter changes before after → Suits schema after
+    (before after : Database) → AreIndexesOf schema before indexes → are_any_alike schema before ≡ false
+    → IsAfter changes before after → Suits schema after
     → alike ≡ are_any_alike schema after

@@ -22,7 +22,8 @@ has_entry key id = list_any (is_entry key id)
 -- the entries of a row with these columns in indexes of the table of this name, the first of which has this number
 abbrev pub entries_from : ℕ → List ℕ → List (List (List ℕ)) → Uuid → Columns → List IndexEntry
 entries_from number name [] id columns = []
-entries_from number name (index ∷ indexes) id columns = record { key = key_at name number index columns; id = id } ∷ entries_from (number + 1) name indexes id columns
+entries_from number name (index ∷ indexes) id columns =
+    record { key = key_at name number index columns; id = id } ∷ entries_from (number + 1) name indexes id columns
 
 -- its entries in all indexes of the table, if there is such a table
 abbrev pub entries_in : Option Table → LineKey → Columns → List IndexEntry
@@ -41,7 +42,8 @@ with_entries (entry ∷ entries) indexes = with_entries entries (with_entry entr
 -- with the rows of this list at their keys
 abbrev pub with_entries_of_rows : Schema → List (LineKey × Row) → Indexes → Indexes
 with_entries_of_rows schema [] indexes = indexes
-with_entries_of_rows schema (r ∷ rs) indexes = with_entries_of_rows schema rs (with_entries (entries_in (get schema.tables r.0.0) r.0 r.1.columns) indexes)
+with_entries_of_rows schema (r ∷ rs) indexes =
+    with_entries_of_rows schema rs (with_entries (entries_in (get schema.tables r.0.0) r.0 r.1.columns) indexes)
 
 -- the entries of the row of this key, if there is one
 abbrev pub entries_of_row : Schema → LineKey → Option Row → List IndexEntry
@@ -56,15 +58,20 @@ has_indexes table = is_some_and (λ t. not (is_empty t.indexes)) table
 
 -- without the listed entries, the same rows are at the same keys
 abbrev pub IsSameWithout : List IndexEntry → Indexes → List IndexEntry → Indexes → Type 0
-IsSameWithout added indexes more after = (key : IndexKey) (id : Uuid) → (is_indexed after key id && not (has_entry key id more)) ≡ (is_indexed indexes key id && not (has_entry key id added))
+IsSameWithout added indexes more after =
+    (key : IndexKey) (id : Uuid)
+    → (is_indexed after key id && not (has_entry key id more)) ≡ (is_indexed indexes key id && not (has_entry key id added))
 
 -- with these entries in addition to those that were there
 abbrev pub AreAdded : List IndexEntry → Indexes → Indexes → Type 0
-AreAdded more indexes after = (key : IndexKey) (id : Uuid) → is_indexed after key id ≡ (is_indexed indexes key id || has_entry key id more)
+AreAdded more indexes after =
+    (key : IndexKey) (id : Uuid) → is_indexed after key id ≡ (is_indexed indexes key id || has_entry key id more)
 
 -- the old entries that are not new are listed in addition
 abbrev pub AreMoreGone : List IndexEntry → List IndexEntry → List IndexEntry → List IndexEntry → Type 0
-AreMoreGone old new gone more = (key : IndexKey) (id : Uuid) → has_entry key id more ≡ (has_entry key id gone || (has_entry key id old && not (has_entry key id new)))
+AreMoreGone old new gone more =
+    (key : IndexKey) (id : Uuid)
+    → has_entry key id more ≡ (has_entry key id gone || (has_entry key id old && not (has_entry key id new)))
 
 -- ---- keys with two rows
 
@@ -74,7 +81,8 @@ has_two = list_any (λ e. nat_lt 1 (len e.1))
 
 -- the indexes have a row at the key that is not changed
 abbrev pub has_unchanged : Indexes → List (LineKey × Option Row) → IndexKey → Bool
-has_unchanged indexes changes key = list_any (λ id. not (contains_key (from_sorted {R = line_cmp} changes) (key.table, id))) (keys (ids_at indexes key))
+has_unchanged indexes changes key =
+    list_any (λ id. not (contains_key (from_sorted {R = line_cmp} changes) (key.table, id))) (keys (ids_at indexes key))
 
 -- the key has two rows, both changed or one of them
 abbrev pub is_shared : Indexes → List (LineKey × Option Row) → IndexKey × IdSet → Bool

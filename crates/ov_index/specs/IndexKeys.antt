@@ -73,4 +73,6 @@ index_key_code =
 
 -- an entry as a pair
 abbrev pub index_entry_code : Coded IndexEntry
-index_entry_code = code_by (IndexKey × Uuid) (coded× index_key_code (coded_list coded_ℕ)) (λ e. (e.key, e.id)) (λ p. record { key = p.0; id = p.1 }) (λ _. refl)
+index_entry_code =
+    code_by (IndexKey × Uuid) (coded× index_key_code (coded_list coded_ℕ)) (λ e. (e.key, e.id))
+    (λ p. record { key = p.0; id = p.1 }) (λ _. refl)

@@ -63,7 +63,10 @@ without_id key id indexes = with_ids key (ids_left (get indexes key) id) indexes
 -- a row with these columns is at the key: its table has an index of the key's number, where the row has the key's values
 abbrev pub stands_at : Schema → LineKey → Columns → IndexKey → Bool
 stands_at schema at columns key =
-    is_some_and (λ table. is_some_and (λ index. same_index_key (key_at at.0 key.number index columns) key) (slice_get table.indexes key.number)) (get schema.tables at.0)
+    is_some_and
+    (λ table. is_some_and (λ index. same_index_key (key_at at.0 key.number index columns) key)
+    (slice_get table.indexes key.number))
+    (get schema.tables at.0)
 
 -- the row is at the key
 abbrev pub is_at : Schema → LineKey × Row → IndexKey → Bool

@@ -20,11 +20,14 @@ values_exact = slice_cmp-IsAntisymmetric datum_cmp-IsAntisymmetric
 
 -- the order of numbered values is total
 pub numbered_total : IsTotalOrder numbered_cmp
-numbered_total = then_total (on_total (λ (p : NumberedValues). p.0) nat_cmp_total) (on_total (λ (p : NumberedValues). p.1) values_total)
+numbered_total =
+    then_total (on_total (λ (p : NumberedValues). p.0) nat_cmp_total) (on_total (λ (p : NumberedValues). p.1) values_total)
 
 -- the order of keys is total
 pub index_total : IsTotalOrder index_cmp
-index_total = then_total (on_total (λ (k : IndexKey). k.table) name_cmp_total) (on_total (λ (k : IndexKey). (k.number, k.values)) numbered_total)
+index_total =
+    then_total (on_total (λ (k : IndexKey). k.table) name_cmp_total)
+    (on_total (λ (k : IndexKey). (k.number, k.values)) numbered_total)
 
 -- if two orders tie one after the other, each ties
 both_Equal : (o p : Ordering) → ordering_then o p ≡ Equal → (o ≡ Equal) × (p ≡ Equal)

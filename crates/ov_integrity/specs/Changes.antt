@@ -16,18 +16,22 @@ pub record Changes : Type 0 where
 
 -- changes as a pair
 abbrev pub changes_code : Coded Changes
-changes_code = code_by (KeySet × Holders) (coded× key_set_code holders_code) (λ c. (c.keys, c.strong)) (λ p. record { keys = p.0; strong = p.1 }) (λ _. refl)
+changes_code =
+    code_by (KeySet × Holders) (coded× key_set_code holders_code) (λ c. (c.keys, c.strong))
+    (λ p. record { keys = p.0; strong = p.1 }) (λ _. refl)
 
 -- At all other keys the rows are as they were. Of the rows at these keys, those that refer strongly to a row are its holders.
 pub record AreChanges (schema : Schema) (before now : Database) (changes : Changes) : Type 0 where
   pub beside : (key : LineKey) → contains_key changes.keys key ≡ false → get now key ≡ get before key
-  pub strong : (to from : LineKey) → is_holder changes.strong to from ≡ (contains_key changes.keys from && is_strong_in schema now to from)
+  pub strong : (to from : LineKey)
+      → is_holder changes.strong to from ≡ (contains_key changes.keys from && is_strong_in schema now to from)
 
 -- ---- how they are collected; for private clauses
 
 -- with the row of this key, if its reference is a strong one
 abbrev pub with_strong : LineKey → Target → Changes → Changes
-with_strong from target changes = if target.is_strong then record changes { strong = with_holder target.key from changes.strong } else changes
+with_strong from target changes =
+    if target.is_strong then record changes { strong = with_holder target.key from changes.strong } else changes
 
 -- with the row of this key for each of its strong references
 abbrev pub with_strong_ones : LineKey → List Target → Changes → Changes
@@ -41,4 +45,5 @@ with_changed_key key changes = record changes { keys = insert changes.keys key t
 -- with a change
 abbrev pub with_changed_row : Schema → LineKey × Option Row → Changes → Changes
 with_changed_row schema (key, None) changes = with_changed_key key changes
-with_changed_row schema (key, Some row) changes = with_strong_ones key (row_targets schema (key, row)) (with_changed_key key changes)
+with_changed_row schema (key, Some row) changes =
+    with_strong_ones key (row_targets schema (key, row)) (with_changed_key key changes)

@@ -15,7 +15,9 @@ use Rattle.ov_specs.specs.schema.SchemaTypes.{Schema}
 -- now.
 abbrev pub AreLinked : Schema → Database → Holders → Changes → Type 0
 AreLinked schema rows strong changes = (to from : LineKey) →
-    is_strong_in schema rows to from ≡ (contains_key rows from && ((is_holder strong to from && not (contains_key changes.keys from)) || is_holder changes.strong to from))
+    is_strong_in schema rows to from
+    ≡ (contains_key rows from
+    && ((is_holder strong to from && not (contains_key changes.keys from)) || is_holder changes.strong to from))
 
 -- ---- for private clauses
 
@@ -25,7 +27,8 @@ some_holds holders to test = is_some_and (λ set. list_any test (keys set)) (get
 
 -- the row exists, is unchanged, and is not the one of the key
 abbrev pub is_unchanged_beside : Database → KeySet → LineKey → LineKey → Bool
-is_unchanged_beside rows changed key from = not (eq_by_cmp line_cmp from key) && not (contains_key changed from) && contains_key rows from
+is_unchanged_beside rows changed key from =
+    not (eq_by_cmp line_cmp from key) && not (contains_key changed from) && contains_key rows from
 
 -- the row exists, and is not the one of the key
 abbrev pub is_there_beside : Database → LineKey → LineKey → Bool

@@ -13,7 +13,8 @@ use Rattle.ov_specs.specs.schema.SchemaTypes.{Schema}
 
 -- an unchanged row refers to the one of this key
 abbrev pub is_held_beside : Holders → Delta → LineKey → Bool
-is_held_beside holders changes key = is_some_and (λ set. list_any (λ from. not (contains_key changes from)) (keys set)) (get holders key)
+is_held_beside holders changes key =
+    is_some_and (λ set. list_any (λ from. not (contains_key changes from)) (keys set)) (get holders key)
 
 -- the row that a change puts refers to a missing row, or an unchanged row refers to the row that the change removes
 abbrev pub misses_by : Schema → Database → Holders → Delta → LineKey × Option Row → Bool

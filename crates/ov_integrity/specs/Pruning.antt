@@ -23,7 +23,8 @@ pruned_at schema before version key rows = with_pruned schema before version key
 -- one row after another
 abbrev pub pruned_at_all : Schema → Database → Uuid → List LineKey → Database → Database
 pruned_at_all schema before version [] rows = rows
-pruned_at_all schema before version (key ∷ keys) rows = pruned_at_all schema before version keys (pruned_at schema before version key rows)
+pruned_at_all schema before version (key ∷ keys) rows =
+    pruned_at_all schema before version keys (pruned_at schema before version key rows)
 
 -- there is a row at the key, and one of its values is too short
 abbrev pub is_short_at : Schema → LineKey → Database → Bool
@@ -31,7 +32,9 @@ is_short_at schema key rows = is_some_and (λ row. is_short schema (key, row)) (
 
 -- each row with such a reference is one of these
 abbrev pub MayDangle : Schema → Database → List LineKey → Type 0
-MayDangle schema rows keys = (key : LineKey) (row : Row) → get rows key ≡ Some row → dangles schema rows (key, row) ≡ true → list_any (same_key key) keys ≡ true
+MayDangle schema rows keys =
+    (key : LineKey) (row : Row) → get rows key ≡ Some row → dangles schema rows (key, row) ≡ true
+    → list_any (same_key key) keys ≡ true
 
 -- ---- for private clauses
 

@@ -14,4 +14,6 @@ strong_keys targets = map (λ t. t.key) (filter (λ t. t.is_strong) targets)
 
 -- each row without support is one of these
 abbrev pub MayLack : Schema → Database → List LineKey → Type 0
-MayLack schema rows work = (key : LineKey) (row : Row) → get rows key ≡ Some row → is_supported schema rows key ≡ false → list_any (same_key key) work ≡ true
+MayLack schema rows work =
+    (key : LineKey) (row : Row) → get rows key ≡ Some row → is_supported schema rows key ≡ false
+    → list_any (same_key key) work ≡ true

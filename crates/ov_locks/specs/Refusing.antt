@@ -7,7 +7,8 @@ use Rattle.ov_locks.specs.declared.fault.LockFault.TheVariants.{AlreadyRequested
 -- what refuses a lock or a steal to a session that has asked for this many locks, whether or not for this one (RFC 7047,
 -- 4.1.8, which sets no limit)
 abbrev pub refusal_for : Bool → ℕ → Option LockFault
-refusal_for has_requested requests = if has_requested then Some AlreadyRequested else (if nat_le lock_limit requests then Some Limit else None)
+refusal_for has_requested requests =
+    if has_requested then Some AlreadyRequested else (if nat_le lock_limit requests then Some Limit else None)
 
 -- what refuses a lock or a steal of this name to the session
 abbrev pub request_refusal : List ℕ → ℕ → Queues → Option LockFault

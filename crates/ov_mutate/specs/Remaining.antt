@@ -8,13 +8,15 @@ use Rattle.ov_specs.specs.values.Value.{Atom}
 abbrev pub remaining_atoms : List Atom → List Atom → List Atom
 remaining_atoms rest [] = []
 remaining_atoms rest (a ∷ atoms) =
-    if is_first (λ b. same_atom b a) (atoms_from a rest) then remaining_atoms (atoms_from a rest) atoms else a ∷ remaining_atoms (atoms_from a rest) atoms
+    if is_first (λ b. same_atom b a) (atoms_from a rest) then remaining_atoms (atoms_from a rest) atoms
+    else a ∷ remaining_atoms (atoms_from a rest) atoms
 
 -- the pairs of the second list that are not in the first
 abbrev pub remaining_pairs : List (Atom × Atom) → List (Atom × Atom) → List (Atom × Atom)
 remaining_pairs rest [] = []
 remaining_pairs rest (p ∷ pairs) =
-    if is_first (λ q. same_pair q p) (pairs_from p.0 rest) then remaining_pairs (pairs_from p.0 rest) pairs else p ∷ remaining_pairs (pairs_from p.0 rest) pairs
+    if is_first (λ q. same_pair q p) (pairs_from p.0 rest) then remaining_pairs (pairs_from p.0 rest) pairs
+    else p ∷ remaining_pairs (pairs_from p.0 rest) pairs
 
 -- the pairs of the second list whose keys are not in the first
 abbrev pub pairs_without_keys : List Atom → List (Atom × Atom) → List (Atom × Atom)
@@ -27,4 +29,5 @@ pairs_without_keys rest (p ∷ pairs) =
 abbrev pub at_new_keys : List (Atom × Atom) → List (Atom × Atom) → List (Atom × Atom)
 at_new_keys rest [] = []
 at_new_keys rest (p ∷ pairs) =
-    if is_first (λ q. same_atom q.0 p.0) (pairs_from p.0 rest) then at_new_keys (pairs_from p.0 rest) pairs else p ∷ at_new_keys (pairs_from p.0 rest) pairs
+    if is_first (λ q. same_atom q.0 p.0) (pairs_from p.0 rest) then at_new_keys (pairs_from p.0 rest) pairs
+    else p ∷ at_new_keys (pairs_from p.0 rest) pairs

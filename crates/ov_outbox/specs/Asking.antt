@@ -1,4 +1,4 @@
--- What comes of a call that asks for a lock, or gives it up.
+-- How a call that asks for a lock, or gives it up, changes the outbox.
 use Rattle.std.specs.Prelude.{◌≡◌, ℕ, List, [], ◌∷◌, ◌++◌, Some, None, option_to_list, Result, Ok, Err, IfSome}
 use Rattle.serde_json.specs.Data.{Data}
 use Rattle.ov_specs.specs.locks.Queues.{Queues, LockCall, call_refusal, after_call, call_result, told_of_call}

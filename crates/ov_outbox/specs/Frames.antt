@@ -44,7 +44,8 @@ has_queue session queues = is_some (queue_for session queues)
 
 -- one more frame waits for the session
 abbrev pub PostsFrame : ℕ → List ℕ → WaitingFrames → WaitingFrames → Type 0
-PostsFrame session frame old new = (other : ℕ) → waiting_for other new ≡ waiting_for other old ++ (if other == session then frame ∷ [] else [])
+PostsFrame session frame old new =
+    (other : ℕ) → waiting_for other new ≡ waiting_for other old ++ (if other == session then frame ∷ [] else [])
 
 -- these are sent: their frames wait after those that waited, each for its session
 abbrev pub PostsSent : List Sent → WaitingFrames → WaitingFrames → Type 0
@@ -79,12 +80,14 @@ GivesUpPlaces session old new = (other : ℕ) → places_for other new ≡ (if o
 -- two more places are kept for the session, if there is one
 abbrev pub KeepsTwoFor : Option ℕ → WaitingFrames → WaitingFrames → Type 0
 KeepsTwoFor None old new = HasSamePlaces old new
-KeepsTwoFor (Some session) old new = (other : ℕ) → places_for other new ≡ places_for other old + 2 * (if other == session then 1 else 0)
+KeepsTwoFor (Some session) old new =
+    (other : ℕ) → places_for other new ≡ places_for other old + 2 * (if other == session then 1 else 0)
 
 -- two places less for it, if there are two
 abbrev pub GivesUpTwoFor : Option ℕ → WaitingFrames → WaitingFrames → Type 0
 GivesUpTwoFor None old new = HasSamePlaces old new
-GivesUpTwoFor (Some session) old new = (other : ℕ) → places_for other new ≡ places_for other old - 2 * (if other == session then 1 else 0)
+GivesUpTwoFor (Some session) old new =
+    (other : ℕ) → places_for other new ≡ places_for other old - 2 * (if other == session then 1 else 0)
 
 -- ---- frames that are prepared
 

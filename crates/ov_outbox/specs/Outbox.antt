@@ -19,4 +19,6 @@ queues_code = coded_list (coded× (coded_list coded_ℕ) (coded_list coded_ℕ))
 
 -- both, as a pair
 abbrev pub outbox_code : Coded Outbox
-outbox_code = code_by (WaitingFrames × Queues) (coded× frames_code queues_code) (λ o. (o.frames, o.queues)) (λ p. record { frames = p.0; queues = p.1 }) (λ _. refl)
+outbox_code =
+    code_by (WaitingFrames × Queues) (coded× frames_code queues_code) (λ o. (o.frames, o.queues))
+    (λ p. record { frames = p.0; queues = p.1 }) (λ _. refl)

@@ -12,4 +12,5 @@ pub record PipesState (C : Type 0) : Type 0 where
 
 -- those of pipes
 abbrev pub pipes_state : {S W C : Type 0} → source.Ghosts S → sink.Ghosts W → Pipes S W C → PipesState C
-pipes_state source sink pipes = record { reader = source_of source pipes.reader; writer = sink_of sink pipes.writer; clock = pipes.clock }
+pipes_state source sink pipes =
+    record { reader = source_of source pipes.reader; writer = sink_of sink pipes.writer; clock = pipes.clock }

@@ -1,4 +1,4 @@
--- What comes of a core when one session of it is served over pipes.
+-- How one session over pipes changes a core.
 use Rattle.std.specs.Prelude.{◌≡◌, ◌⊎◌, ℕ}
 use Rattle.ov_specs.specs.machine.Machine.{Open as SpecOpen}
 use Rattle.ov_history.specs.declared.event.Cause.{Cause}

@@ -49,7 +49,8 @@ module _ {K : Type 0} {R : K → K → Ordering} where
   -- without `from`; if it was the last one, `to` is not listed
   abbrev pub without_in_set : Option KeySet → K → LineKey → FinMap R KeySet → FinMap R KeySet
   without_in_set None to from holders = holders
-  without_in_set (Some set) to from holders = if len (remove set from) == 0 then remove holders to else insert holders to (remove set from)
+  without_in_set (Some set) to from holders =
+      if len (remove set from) == 0 then remove holders to else insert holders to (remove set from)
 
   -- without `from` among the rows that refer to `to`; if it was the last one, `to` is not listed
   abbrev pub without_holder : K → LineKey → FinMap R KeySet → FinMap R KeySet

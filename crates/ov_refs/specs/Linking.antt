@@ -16,7 +16,9 @@ pub record Links : Type 0 where
 
 -- links as a pair
 abbrev pub links_code : Coded Links
-links_code = code_by (Holders × Holders) (coded× holders_code holders_code) (λ l. (l.strong, l.weak)) (λ p. record { strong = p.0; weak = p.1 }) (λ _. refl)
+links_code =
+    code_by (Holders × Holders) (coded× holders_code holders_code) (λ l. (l.strong, l.weak))
+    (λ p. record { strong = p.0; weak = p.1 }) (λ _. refl)
 
 -- no row refers to any row
 abbrev pub AreNone : Links → Type 0
@@ -42,7 +44,8 @@ pub record AreLinksOf (schema : Schema) (rows : Database) (links : Links) : Type
 -- without the reference
 abbrev pub without_reference : RowReference → Links → Links
 without_reference r links =
-    if r.to.is_strong then record links { strong = without_holder r.to.key r.from links.strong } else record links { weak = without_holder r.to.key r.from links.weak }
+    if r.to.is_strong then record links { strong = without_holder r.to.key r.from links.strong }
+    else record links { weak = without_holder r.to.key r.from links.weak }
 
 -- without these references
 abbrev pub without_references : List RowReference → Links → Links
@@ -54,7 +57,8 @@ without_references (r ∷ rs) links = without_references rs (without_reference r
 -- with a reference of the row of this key
 abbrev pub with_target : LineKey → Target → Links → Links
 with_target from target links =
-    if target.is_strong then record links { strong = with_holder target.key from links.strong } else record links { weak = with_holder target.key from links.weak }
+    if target.is_strong then record links { strong = with_holder target.key from links.strong }
+    else record links { weak = with_holder target.key from links.weak }
 
 -- with these references of the row
 abbrev pub with_targets : LineKey → List Target → Links → Links

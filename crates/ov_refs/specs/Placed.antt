@@ -31,7 +31,9 @@ lost_one from strong weak target =
 
 -- the references that the row had before and does not have after
 abbrev pub lost : LineKey → List Target → List Target → List RowReference
-lost from before after = flat_map (λ target. if has_target target.is_strong target.key after then [] else record { from = from; to = target } ∷ []) before
+lost from before after =
+    flat_map
+    (λ target. if has_target target.is_strong target.key after then [] else record { from = from; to = target } ∷ []) before
 
 -- ---- links
 
@@ -46,4 +48,5 @@ AreAlike a b = (strong : Bool) (to from : LineKey) → refers strong a to from �
 -- as before, and the row also refers to these
 abbrev pub Adds : LineKey → List Target → Links → Links → Type 0
 Adds by targets before after =
-    (strong : Bool) (to from : LineKey) → refers strong after to from ≡ (refers strong before to from || (same_key from by && has_target strong to targets))
+    (strong : Bool) (to from : LineKey)
+    → refers strong after to from ≡ (refers strong before to from || (same_key from by && has_target strong to targets))

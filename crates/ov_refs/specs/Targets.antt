@@ -11,11 +11,15 @@ use Rattle.ov_specs.specs.values.Value.{Atom, Datum, Atoms, Pairs}
 
 -- a target as a pair
 abbrev pub target_code : Coded Target
-target_code = code_by (LineKey × Bool) (coded× (coded× (coded_list coded_ℕ) (coded_list coded_ℕ)) coded_bool) (λ t. (t.key, t.is_strong)) (λ p. record { key = p.0; is_strong = p.1 }) (λ _. refl)
+target_code =
+    code_by (LineKey × Bool) (coded× (coded× (coded_list coded_ℕ) (coded_list coded_ℕ)) coded_bool)
+    (λ t. (t.key, t.is_strong)) (λ p. record { key = p.0; is_strong = p.1 }) (λ _. refl)
 
 -- a reference as a pair
 abbrev pub row_reference_code : Coded RowReference
-row_reference_code = code_by (LineKey × Target) (coded× (coded× (coded_list coded_ℕ) (coded_list coded_ℕ)) target_code) (λ r. (r.from, r.to)) (λ p. record { from = p.0; to = p.1 }) (λ _. refl)
+row_reference_code =
+    code_by (LineKey × Target) (coded× (coded× (coded_list coded_ℕ) (coded_list coded_ℕ)) target_code)
+    (λ r. (r.from, r.to)) (λ p. record { from = p.0; to = p.1 }) (λ _. refl)
 
 -- ---- for private clauses
 

@@ -17,8 +17,10 @@ IsWork s session (Answers trees) (kinds.Answer bytes) = map frame trees ≡ opti
 IsWork s session asked (kinds.Answer bytes) = ⊥
 IsWork s session asked (kinds.Transact id operations) = asked ≡ Transact id operations
 IsWork s session asked (kinds.Cancel id text) = (asked ≡ Cancels id) × (text ≡ compact_text id)
-IsWork s session asked (kinds.Lock call id name) = asked ≡ unless_refused id (call_refusal (lock_call_view call) name session s.queues) (Locks (lock_call_view call) id name)
-IsWork s session asked (kinds.Monitor id name requests) = asked ≡ monitor_work s id name (added s.schema (monitors_of session s) name requests)
+IsWork s session asked (kinds.Lock call id name) =
+    asked ≡ unless_refused id (call_refusal (lock_call_view call) name session s.queues) (Locks (lock_call_view call) id name)
+IsWork s session asked (kinds.Monitor id name requests) =
+    asked ≡ monitor_work s id name (added s.schema (monitors_of session s) name requests)
 IsWork s session asked (kinds.CancelMonitor id name) = asked ≡ monitor_cancel_work id (canceled (monitors_of session s) name)
 
 -- nothing is drawn for it

@@ -12,4 +12,6 @@ pub record Txn : Type 0 where
 
 -- both as a pair
 abbrev pub txn_code : Coded Txn
-txn_code = code_by (List Uuid × Items) (coded× (coded_list (coded_list coded_ℕ)) items_code) (λ t. (t.draws, t.operations)) (λ p. record { draws = p.0; operations = p.1 }) (λ _. refl)
+txn_code =
+    code_by (List Uuid × Items) (coded× (coded_list (coded_list coded_ℕ)) items_code) (λ t. (t.draws, t.operations))
+    (λ p. record { draws = p.0; operations = p.1 }) (λ _. refl)

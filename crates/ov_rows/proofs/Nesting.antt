@@ -1,11 +1,12 @@
 -- Rows, or what belongs to each of them, nested by their tables and by their keys.
-use Rattle.std.proofs.Common.{◌≡◌, ℕ, List, [], ◌∷◌, ◌++◌, Bool, true, false, cond, T, Option, Some, None, refl, sym, ap, subst, ◌∙◌, append-nil, Ordering, Less, Equal, Greater}
+use Rattle.std.proofs.Common.{◌≡◌, ℕ, List, [], ◌∷◌, ◌++◌, Bool, true, false, cond, T, Some, None, refl, sym, ap, subst, ◌∙◌, append-nil, Ordering, Less, Equal, Greater}
 use Rattle.std.specs.Prelude.{option_and_then}
 use Rattle.std.specs.Cmp.{eq_by_cmp_equiv}
 use Rattle.std.specs.Cmp.Lexicographic.{texts_ties}
 use Rattle.std.specs.FinMap.{find, from_sorted, is_sorted, get, entries, entries_sorted, get-from_sorted, get-entries, entries-from_sorted}
 use Rattle.std.specs.FinMap.Entries.{below_all}
 use Rattle.std.specs.List.{filter}
+use Rattle.std.specs.Option.{option_or}
 use Rattle.std.specs.Ordering.{eq_by_cmp, is_eq, is_lt, ordering_then}
 use Rattle.std.specs.Str.{bytes_eq}
 use Rattle.std.proofs.lemmas.List.Elements.{filter-append}
@@ -13,6 +14,7 @@ use Rattle.ov_specs.specs.rows.Lines.{LineKey, line_cmp}
 use Rattle.ov_specs.specs.schema.SchemaTypes.{name_cmp}
 use Rattle.ov_specs.specs.values.Uuid.{Uuid}
 use Rattle.ov_specs.proofs.laws.Names.{name_cmp_total, name_exact}
+use Rattle.ov_specs.proofs.laws.PutValues.{option_or-none}
 use Rattle.ov_specs.proofs.laws.Truths.{both_hold, left_holds, right_holds, less_is, equal_is, not_tied}
 use Rattle.ov_rows.specs.Nested.{OfTable, id_cmp, in_table, rows_in, all_rows}
 
@@ -69,10 +71,6 @@ module _ {V : Type 0} where
 
   -- ---- what is at a key
 
-  abbrev or_else : Option V → Option V → Option V
-  or_else (Some row) other = Some row
-  or_else None other = other
-
   module _ (name : List ℕ) (q : LineKey) (ys : Entries V) where
     find_apart : (es : List (Uuid × V)) → eq_by_cmp name_cmp q.0 name ≡ false → find line_cmp q (in_table name es ++ ys) ≡ find line_cmp q ys
     find_apart [] h = refl
@@ -83,12 +81,12 @@ module _ {V : Type 0} where
         by Equal p = cc
         by Greater p = refl
 
-    find_within : (es : List (Uuid × V)) → name_cmp q.0 name ≡ Equal → find line_cmp q (in_table name es ++ ys) ≡ or_else (find id_cmp q.1 es) (find line_cmp q ys)
+    find_within : (es : List (Uuid × V)) → name_cmp q.0 name ≡ Equal → find line_cmp q (in_table name es ++ ys) ≡ option_or (find id_cmp q.1 es) (find line_cmp q ys)
     find_within [] h = refl
     find_within (e ∷ es) h =
         ap (λ o. cond (is_eq (ordering_then o (id_cmp q.1 e.0))) (Some e.1) (find line_cmp q (in_table name es ++ ys))) h
         ∙ ap (cond (is_eq (id_cmp q.1 e.0)) (Some e.1)) (find_within es h)
-        ∙ (elim (is_eq (id_cmp q.1 e.0)) as (λ b. cond b (Some e.1) (or_else (find id_cmp q.1 es) (find line_cmp q ys)) ≡ or_else (cond b (Some e.1) (find id_cmp q.1 es)) (find line_cmp q ys)) [
+        ∙ (elim (is_eq (id_cmp q.1 e.0)) as (λ b. cond b (Some e.1) (option_or (find id_cmp q.1 es) (find line_cmp q ys)) ≡ option_or (cond b (Some e.1) (find id_cmp q.1 es)) (find line_cmp q ys)) [
           | true ↦ refl
           | false ↦ refl
         ])
@@ -97,10 +95,6 @@ module _ {V : Type 0} where
   find_earlier : (q : LineKey) (ts : Tables V) → T (below_all name_cmp q.0 ts) → find line_cmp q (all_rows ts) ≡ None
   find_earlier q [] h = refl
   find_earlier q (t ∷ ts) h = find_apart t.0 q (all_rows ts) (entries t.1) (not_tied _ (left_holds _ _ h)) ∙ find_earlier q ts (right_holds _ _ h)
-
-  or_else-none : (o : Option V) → or_else o None ≡ o
-  or_else-none None = refl
-  or_else-none (Some row) = refl
 
   pub find_nested : (q : LineKey) (ts : Tables V) → T (is_sorted name_cmp ts) → find line_cmp q (all_rows ts) ≡ option_and_then (λ t. get t q.1) (find name_cmp q.0 ts)
   find_nested q [] h = refl
@@ -112,8 +106,8 @@ module _ {V : Type 0} where
       by others true is =
           let tied = equal_is _ is in
           find_within t.0 q (all_rows ts) (entries t.1) tied
-          ∙ ap (or_else (find id_cmp q.1 (entries t.1))) (find_earlier q ts (subst (λ n. T (below_all name_cmp n ts)) (sym (name_exact q.0 t.0 tied)) (left_holds _ _ h)))
-          ∙ or_else-none _ ∙ sym (get-entries t.1 q.1)
+          ∙ ap (option_or (find id_cmp q.1 (entries t.1))) (find_earlier q ts (subst (λ n. T (below_all name_cmp n ts)) (sym (name_exact q.0 t.0 tied)) (left_holds _ _ h)))
+          ∙ option_or-none _ ∙ sym (get-entries t.1 q.1)
 
   -- what is at a key is what is in its table
   pub get_nested : (ts : Tables V) (q : LineKey) → T (is_sorted name_cmp ts) → get (from_sorted {R = line_cmp} (all_rows ts)) q ≡ option_and_then (λ t. get t q.1) (find name_cmp q.0 ts)

@@ -1,9 +1,10 @@
 -- Values that are put in their places, one after another or one alone.
-use Rattle.std.proofs.Common.{◌≡◌, ◌<◌, ◌+◌, ℕ, zero, suc, ◌&&◌, List, [], ◌∷◌, ◌++◌, map, length, take, get_or, zip, String, string_bytes, Global, append_assoc, arith, Bool, true, false, cond, T, Option, Some, None, refl, sym, ap, subst, ◌∙◌}
+use Rattle.std.proofs.Common.{◌≡◌, ◌<◌, ◌+◌, ℕ, zero, suc, ◌&&◌, List, [], ◌∷◌, ◌++◌, map, length, take, get_or, zip, String, string_bytes, Global, append_assoc, arith, Bool, true, false, cond, T, Option, Some, refl, sym, ap, subst, ◌∙◌}
 use Rattle.std.specs.Cmp.Lexicographic.{same_text}
-use Rattle.std.specs.FinMap.{find, is_sorted, empty, insert, get, entries, entries_sorted, get-empty, get-entries, get-insert, same_map, get-from_sorted}
+use Rattle.std.specs.FinMap.{find, is_sorted, empty, insert, entries, entries_sorted, get-empty, get-entries, get-insert, same_map, get-from_sorted}
 use Rattle.std.specs.FinMap.Entries.{below_all}
 use Rattle.std.specs.List.{slice_set}
+use Rattle.std.specs.Option.{option_or}
 use Rattle.std.specs.Ordering.{is_lt}
 use Rattle.std.specs.Str.{bytes_eq}
 use Rattle.std.proofs.Math.ListN.{length-set}
@@ -14,36 +15,18 @@ use Rattle.ov_specs.specs.operations.GivenRow.{with_values}
 use Rattle.ov_specs.specs.rows.Database.{Columns}
 use Rattle.ov_specs.specs.schema.SchemaTypes.{name_cmp}
 use Rattle.ov_specs.specs.values.Value.{Datum}
-use Rattle.ov_specs.proofs.laws.Names.{name_cmp_total, name_exact, same_name, same_name-is, find-first_not_later, sorted_rest}
+use Rattle.ov_specs.proofs.laws.Names.{name_cmp_total, name_exact, same_name, same_name-is}
+use Rattle.ov_specs.proofs.laws.PutValues.{option_or-none, get-with_values}
 use Rattle.ov_rows.specs.Named.{columns_at, place_from, IsListed}
 
 -- ---- one after another
-
--- the first that there is
-abbrev first_of : {X : Type 0} → Option X → Option X → Option X
-first_of None other = other
-first_of (Some x) other = Some x
-
-first_alone : {X : Type 0} (o : Option X) → first_of o None ≡ o
-first_alone None = refl
-first_alone (Some x) = refl
-
-get-with_values : (es : List (List ℕ × Datum)) (columns : Columns) (name : List ℕ) → T (is_sorted name_cmp es) → get (with_values es columns) name ≡ first_of (find name_cmp name es) (get columns name)
-get-with_values [] columns name h = refl
-get-with_values (e ∷ es) columns name h =
-    get-with_values es (insert columns e.0 e.1) name (sorted_rest e es h)
-    ∙ (ap (first_of (find name_cmp name es)) (get-insert name_cmp_total columns e.0 e.1 name) ∙ by (same_name name e.0) refl)
-  where
-    by : (b : Bool) → same_name name e.0 ≡ b → first_of (find name_cmp name es) (cond b (Some e.1) (get columns name)) ≡ first_of (cond b (Some e.1) (find name_cmp name es)) (get columns name)
-    by true is = ap (λ o. first_of o (Some e.1)) (find-first_not_later e es name h is)
-    by false is = refl
 
 -- all values of a row, added to none, are the row's
 pub with_values-all : (columns : Columns) → with_values (entries columns) empty ≡ columns
 with_values-all columns = same_map name_cmp_total name_exact _ _ (λ name.
     get-with_values (entries columns) empty name (entries_sorted columns)
-    ∙ (ap (first_of (find name_cmp name (entries columns))) (get-empty name_cmp name)
-    ∙ (first_alone (find name_cmp name (entries columns)) ∙ sym (get-entries columns name))))
+    ∙ (ap (option_or (find name_cmp name (entries columns))) (get-empty name_cmp name)
+    ∙ (option_or-none (find name_cmp name (entries columns)) ∙ sym (get-entries columns name))))
 
 -- ---- one alone
 

@@ -14,7 +14,8 @@ body_of columns = object_of (map written_column (entries columns))
 
 -- each value is of some kinds, as in every table
 abbrev pub AreOfKinds : Columns → Type 0
-AreOfKinds columns = (name : List ℕ) (datum : Datum) → get columns name ≡ Some datum → (kinds : Kinds) × (is_of kinds datum ≡ true)
+AreOfKinds columns =
+    (name : List ℕ) (datum : Datum) → get columns name ≡ Some datum → (kinds : Kinds) × (is_of kinds datum ≡ true)
 
 -- the tokens of one column; for private clauses
 abbrev pub column_tokens : List ℕ × Datum → List Token

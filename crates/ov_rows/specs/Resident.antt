@@ -30,7 +30,9 @@ columns_code = map.code (coded_list coded_ℕ) datum_code
 
 -- a row as a pair
 abbrev pub row_code : Coded Row
-row_code = code_by (List ℕ × Columns) (coded× (coded_list coded_ℕ) columns_code) (λ r. (r.version, r.columns)) (λ p. record { version = p.0; columns = p.1 }) (λ _. refl)
+row_code =
+    code_by (List ℕ × Columns) (coded× (coded_list coded_ℕ) columns_code) (λ r. (r.version, r.columns))
+    (λ p. record { version = p.0; columns = p.1 }) (λ _. refl)
 
 -- a database as a map
 abbrev pub database_code : Coded Database

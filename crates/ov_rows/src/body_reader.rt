@@ -50,7 +50,7 @@ impl BodyReader {
         }
     }
 
-    /// So many guessed values, read from the body.
+    /// Reads `count` values, guessing each one's kind.
     fn values(&mut self, alloc: Global, count: usize, body: &[u8]) -> Result<Vec<Datum>, AtomFault>
         ensures { IfOk result (λ values. length values.items ≡ count) }
     {

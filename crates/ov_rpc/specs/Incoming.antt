@@ -17,5 +17,6 @@ is_echo (Bad id kind) = false
 
 -- The bytes of the reply to an echo, whose result is the params of the call; or the message itself, which is no echo.
 abbrev pub StandsFor : code.Incoming → Message → Type 0
-StandsFor (kinds.Echo reply) message = (id : Data) × (params : Items) × (message ≡ Call id (codes "echo") params) × (reply ≡ frame (reply_tree id (array params)))
+StandsFor (kinds.Echo reply) message =
+    (id : Data) × (params : Items) × (message ≡ Call id (codes "echo") params) × (reply ≡ frame (reply_tree id (array params)))
 StandsFor (kinds.Message kept) message = (message_view kept ≡ message) × (is_echo message ≡ false)

@@ -40,7 +40,8 @@ most_view Unlimited = shape.Unlimited
 
 -- the members of a type
 abbrev pub type_view : TypeShape → shape.TypeShape
-type_view t = record { key = base_view t.key; value = option_map base_view t.value; min = t.min; max = option_map most_view t.max }
+type_view t =
+    record { key = base_view t.key; value = option_map base_view t.value; min = t.min; max = option_map most_view t.max }
 
 -- the members of a column
 abbrev pub column_view : ColumnShape → shape.ColumnShape
@@ -60,7 +61,12 @@ indexes_view indexes = map (λ index. texts_view index.items) indexes
 
 -- the members of a table
 abbrev pub table_view : TableShape → shape.TableShape
-table_view t = record { columns = map named_column_view t.columns.items; max_rows = t.max_rows; is_root = t.is_root; indexes = indexes_view t.indexes.items }
+table_view t = record {
+  columns = map named_column_view t.columns.items;
+  max_rows = t.max_rows;
+  is_root = t.is_root;
+  indexes = indexes_view t.indexes.items;
+}
 
 -- a table with its name
 abbrev pub named_table_view : Bor (List ℕ) × TableShape → List ℕ × shape.TableShape
@@ -68,4 +74,5 @@ named_table_view t = (t.0.now, table_view t.1)
 
 -- the members of a schema
 abbrev pub schema_view : SchemaShape → shape.SchemaShape
-schema_view s = record { name = s.name.now; version = option_map (λ v. v.now) s.version; tables = map named_table_view s.tables.items }
+schema_view s =
+    record { name = s.name.now; version = option_map (λ v. v.now) s.version; tables = map named_table_view s.tables.items }

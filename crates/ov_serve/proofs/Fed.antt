@@ -1,4 +1,4 @@
--- What comes of a piece of an open session, and of the time that passes after it.
+-- How a piece of an open session, and the time that passes after it, change a server.
 use Rattle.std.proofs.Common.{◌≡◌, ℕ, List, [], ◌∷◌, ◌++◌, Bool, true, false, refl, sym, subst, append_assoc, max}
 use Rattle.ov_specs.specs.wire.Message.{Message, asked}
 use Rattle.ov_specs.specs.machine.Machine as machine

@@ -62,7 +62,8 @@ PassesIf false at old new = new ≡ old
 
 -- A piece of a session's stream was entered at the moment that the clock reported. Then time passed to it, if the session
 -- is still open and a transaction is due; unless that was refused, and then not all was done.
-pub record ServesPiece {K D C : Type 0} (tells : C → ℕ → C → Type 0) (piece : FedPiece) (old : Timed K D C) (is_all : Bool) (new : Timed K D C) (cutter : CutterState) : Type 0 where
+pub record ServesPiece {K D C : Type 0} (tells : C → ℕ → C → Type 0) (piece : FedPiece) (old : Timed K D C)
+    (is_all : Bool) (new : Timed K D C) (cutter : CutterState) : Type 0 where
   pub at : ℕ
   pub reported : tells old.clock at new.clock
   pub mid : CoreState K D
@@ -76,7 +77,8 @@ pub record ServesPiece {K D C : Type 0} (tells : C → ℕ → C → Type 0) (pi
 
 -- What was done since the core was `old`: the session was opened, these pieces of it were read and entered, and all of these
 -- frames were written, or a beginning of them.
-pub record ServedSoFar {K D C : Type 0} (tells : C → ℕ → C → Type 0) (n : ℕ) (is_whole : Bool) (old new : ServerState K D C) : Type 0 where
+pub record ServedSoFar {K D C : Type 0} (tells : C → ℕ → C → Type 0) (n : ℕ) (is_whole : Bool)
+    (old new : ServerState K D C) : Type 0 where
   pub entries : List machine.Entry
   pub frames : List (List ℕ)
   pub pieces : Pieces
@@ -93,6 +95,7 @@ pub record ServedSoFar {K D C : Type 0} (tells : C → ℕ → C → Type 0) (n 
   pub stands : StandsAfter n old.core.state entries new.core.state
 
 -- the same; the cutter was given what was read, while the session is open
-pub record ServedAndFed {K D C : Type 0} (tells : C → ℕ → C → Type 0) (n : ℕ) (old new : ServerState K D C) (cutter : CutterState) : Type 0 where
+pub record ServedAndFed {K D C : Type 0} (tells : C → ℕ → C → Type 0) (n : ℕ) (old new : ServerState K D C)
+    (cutter : CutterState) : Type 0 where
   pub done : ServedSoFar tells n true old new
   pub fed : is_open new.core.state n ≡ true → IsFed (bytes_of done.pieces) cutter

@@ -31,13 +31,15 @@ pub record ServerState (K D C : Type 0) : Type 0 where
 
 -- a core with a source, a sink and a clock
 abbrev pub server_of : {K D S W C : Type 0} → source.Ghosts S → sink.Ghosts W → CoreState K D → S → W → C → ServerState K D C
-server_of source sink core reader writer clock = record { core = core; reader = source_of source reader; writer = sink_of sink writer; clock = clock }
+server_of source sink core reader writer clock =
+    record { core = core; reader = source_of source reader; writer = sink_of sink writer; clock = clock }
 
 -- ---- frames handed out
 
 -- The core follows the history that it had followed with these entries appended, and these frames of the session were handed
 -- out on the way. The core keeps the newest of the entries it had kept and these, and it has counted the work on these.
-pub record ExtendsHanding {K D : Type 0} (n : ℕ) (old : CoreState K D) (entries : List machine.Entry) (frames : List (List ℕ)) (new : CoreState K D) : Type 0 where
+pub record ExtendsHanding {K D : Type 0} (n : ℕ) (old : CoreState K D) (entries : List machine.Entry)
+    (frames : List (List ℕ)) (new : CoreState K D) : Type 0 where
   pub follows : (before : State) (history : List machine.Entry) (given : ℕ → List (List ℕ)) → Follows before history given old
       → Follows before (history ++ entries) (and_all_handed given n frames) new
   pub keeps : KeepsNewest old.kept entries new.kept
@@ -95,7 +97,8 @@ PassesWhereDue s (e ∷ entries) =
 abbrev pub IsCauseIn : Cause → Option machine.Cause → Type 0
 IsCauseIn InputEnded closed = closed ≡ Some machine.InputEnded
 IsCauseIn ReadFault closed = closed ≡ Some machine.ReadFault
-IsCauseIn WriteFault closed = (closed ≡ Some machine.WriteFault) ⊎ ((closed ≡ Some machine.Damaged) ⊎ (closed ≡ Some machine.Memory))
+IsCauseIn WriteFault closed =
+    (closed ≡ Some machine.WriteFault) ⊎ ((closed ≡ Some machine.Damaged) ⊎ (closed ≡ Some machine.Memory))
 IsCauseIn Damaged closed = closed ≡ Some machine.Damaged
 IsCauseIn Memory closed = closed ≡ Some machine.Memory
 IsCauseIn Overrun closed = ⊥
@@ -103,7 +106,8 @@ IsCauseIn Overrun closed = ⊥
 -- one entry closes the session for this cause, at the last moment
 abbrev pub ClosesAfter : ℕ → machine.Cause → State → List machine.Entry → State → Type 0
 ClosesAfter n cause mid last new =
-    (entry : machine.Entry) × (t : machine.Stepped) × (last ≡ entry ∷ []) × streams.IsEntryAt 0 mid (machine.Close n cause) entry t × (new ≡ t.state)
+    (entry : machine.Entry) × (t : machine.Stepped) × (last ≡ entry ∷ [])
+    × streams.IsEntryAt 0 mid (machine.Close n cause) entry t × (new ≡ t.state)
 
 -- the session was closed by what was read, and no entry follows
 abbrev pub ClosesWithin : ℕ → State → List machine.Entry → State → Type 0
@@ -123,14 +127,16 @@ ClosesFor n Overrun mid last new = ⊥
 -- What a history from a state on says of a session at its end, by the bytes written before it and after it: all that the
 -- history sends the session was written, or a beginning of that if a write failed; and the history closes the session for
 -- the cause that is reported.
-pub record EndsServing (before : State) (history : List machine.Entry) (n : ℕ) (cause : Cause) (said said' : List ℕ) : Type 0 where
+pub record EndsServing (before : State) (history : List machine.Entry) (n : ℕ) (cause : Cause)
+    (said said' : List ℕ) : Type 0 where
   pub reached : machine.Stepped
   pub legal : run before history ≡ Some reached
   pub written : WritesOf (is_written cause) (out n reached.sent) said said'
   pub closed_for : IsCauseIn cause (closed_by before history n)
 
 -- What was done from the opening of the session to its closing. Time passes only if a waiting transaction is due.
-pub record Served {K D C : Type 0} (tells : C → ℕ → C → Type 0) (n : ℕ) (old : ServerState K D C) (cause : Cause) (new : ServerState K D C) : Type 0 where
+pub record Served {K D C : Type 0} (tells : C → ℕ → C → Type 0) (n : ℕ) (old : ServerState K D C) (cause : Cause)
+    (new : ServerState K D C) : Type 0 where
   -- what the core entered, what it handed out, and what was read
   pub entries : List machine.Entry
   pub frames : List (List ℕ)
@@ -154,7 +160,8 @@ pub record Served {K D C : Type 0} (tells : C → ℕ → C → Type 0) (n : ℕ
   pub written : WritesOf (is_written cause) (joined frames) old.writer.written new.writer.written
   pub none_left : is_written cause ≡ true → waiting_for n new.core.outbox ≡ []
   -- whatever history the core has followed from its opening, this is what it says of the session with the entries appended
-  pub ends : (schema : Schema) (database : Database) (history : List machine.Entry) (given : ℕ → List (List ℕ)) → Follows (opening schema database) history given old.core
+  pub ends : (schema : Schema) (database : Database) (history : List machine.Entry) (given : ℕ → List (List ℕ))
+      → Follows (opening schema database) history given old.core
       → EndsServing (opening schema database) (history ++ entries) n cause old.writer.written new.writer.written
 
 -- What the ends say of a cause: the input ended only if the reader met its end, and a failure is counted if one is reported
@@ -169,7 +176,8 @@ CauseMatchesCounts Overrun at_end reads reads' writes writes' = ⊥
 
 -- The next session of the core was served to its closing, for this cause. If no write failed, what was written is flushed. What
 -- was read is of what the reader had, all of it if its end is reported, and what was written is what the writer was given.
-pub record ServesSession {K D C : Type 0} (tells : C → ℕ → C → Type 0) (old : ServerState K D C) (cause : Cause) (new : ServerState K D C) : Type 0 where
+pub record ServesSession {K D C : Type 0} (tells : C → ℕ → C → Type 0) (old : ServerState K D C) (cause : Cause)
+    (new : ServerState K D C) : Type 0 where
   pub served : Served tells old.core.state.next old cause new
   pub flushed : is_written cause ≡ true → new.writer.is_flushed ≡ true
   pub counts : CauseMatchesCounts cause new.reader.at_end old.reader.faults new.reader.faults old.writer.faults new.writer.faults

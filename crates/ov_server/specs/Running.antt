@@ -36,7 +36,9 @@ pub record Invocation (C : Type 0) : Type 0 where
 
 -- The arguments give settings, and what they ask for was served: a database in memory if no file is named, and otherwise the
 -- one in the file.
-pub record RunsDatabase {A D C : Type 0} {g : disk.Ghosts A} (memory : Environment MemoryState D C) (files : Environment (StoreState (FileStore A g)) D C) (start : Invocation C) (ended : DatabaseEnded D) (to : PipesState C) : Type 0 where
+pub record RunsDatabase {A D C : Type 0} {g : disk.Ghosts A} (memory : Environment MemoryState D C)
+    (files : Environment (StoreState (FileStore A g)) D C) (start : Invocation C) (ended : DatabaseEnded D)
+    (to : PipesState C) : Type 0 where
   pub settings : Settings
   pub given : settings_of start.words ≡ Some settings
   pub service : Service D

@@ -74,4 +74,6 @@ pub record AreTied (serials : List (Option ℕ)) (keys : List (ℕ × ℕ)) (nex
 
 -- how a model stores the open sessions, given how it stores a session
 abbrev pub open_sessions_code : Coded Session → Coded OpenSessions
-open_sessions_code code = code_by (List Session × ℕ) (coded× (coded_list code) coded_ℕ) (λ s. (s.open_sessions, s.next)) (λ p. record { open_sessions = p.0; next = p.1 }) (λ _. refl)
+open_sessions_code code =
+    code_by (List Session × ℕ) (coded× (coded_list code) coded_ℕ) (λ s. (s.open_sessions, s.next))
+    (λ p. record { open_sessions = p.0; next = p.1 }) (λ _. refl)

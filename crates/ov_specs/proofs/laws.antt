@@ -26,6 +26,7 @@ pub mod Lists
 pub mod Names
 pub mod Results
 pub mod RowReading
+pub mod PutValues
 pub mod SuitingColumns
 pub mod Suiting
 pub mod FoundRows

@@ -14,7 +14,9 @@ use Rattle.ov_specs.specs.schema.SchemaTypes.{Schema}
 -- no two rows of the table of this name, whatever conditions they meet, are equal in all these columns
 abbrev pub AreToldApart : Database → List ℕ → List (List ℕ) → Type 0
 AreToldApart rows table names =
-    (conditions : List Condition) → without_repeats (map (projection names) (matching rows table conditions)) ≡ map (projection names) (matching rows table conditions)
+    (conditions : List Condition)
+    → without_repeats (map (projection names) (matching rows table conditions))
+    ≡ map (projection names) (matching rows table conditions)
 
 -- the column is among these, and is not one that every row has by itself
 abbrev pub has_column : List (List ℕ) → List ℕ → Bool

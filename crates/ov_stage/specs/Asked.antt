@@ -24,16 +24,19 @@ use Rattle.ov_stage.specs.declared.indexed.Indexed.{Indexed}
 
 -- it has this value in the column of this name
 abbrev pub IsValueOf : List Condition → List ℕ → Datum → Type 0
-IsValueOf conditions column value = (row : LineKey × Row) → meets_all conditions row ≡ true → get row.1.columns column ≡ Some value
+IsValueOf conditions column value =
+    (row : LineKey × Row) → meets_all conditions row ≡ true → get row.1.columns column ≡ Some value
 
 -- it has these values in the columns of the index
 abbrev pub AreValuesOf : List Condition → List (List ℕ) → List Datum → Type 0
-AreValuesOf conditions index values = (row : LineKey × Row) → meets_all conditions row ≡ true → values_in index row.1.columns ≡ values
+AreValuesOf conditions index values =
+    (row : LineKey × Row) → meets_all conditions row ≡ true → values_in index row.1.columns ≡ values
 
 -- the table has an index of this number, and it has these values in the columns of that index
 abbrev pub AreValuesAt : List Condition → Table → ℕ → List Datum → Type 0
 AreValuesAt conditions table number values =
-    (row : LineKey × Row) → meets_all conditions row ≡ true → option_map (λ index. values_in index row.1.columns) (slice_get table.indexes number) ≡ Some values
+    (row : LineKey × Row) → meets_all conditions row ≡ true
+    → option_map (λ index. values_in index row.1.columns) (slice_get table.indexes number) ≡ Some values
 
 -- ---- rows that include them
 
@@ -47,7 +50,9 @@ has_id ids id = list_any (eq_by_cmp id_cmp id) ids
 
 -- every row of the table of this name that meets all conditions has one of these identifiers
 abbrev pub AreIdsOf : List Condition → Database → List ℕ → List Uuid → Type 0
-AreIdsOf conditions rows table ids = (id : Uuid) (row : Row) → get rows (table, id) ≡ Some row → meets_all conditions ((table, id), row) ≡ true → has_id ids id ≡ true
+AreIdsOf conditions rows table ids =
+    (id : Uuid) (row : Row) → get rows (table, id) ≡ Some row → meets_all conditions ((table, id), row) ≡ true
+    → has_id ids id ≡ true
 
 -- the rows of these identifiers that exist in the table of this name
 abbrev pub rows_of_ids : Database → List ℕ → List Uuid → List (LineKey × Row)
@@ -55,7 +60,8 @@ rows_of_ids rows table ids = flat_map (λ id. option_to_list (entry_if_found (ta
 
 -- if there are indexes, they are those of the rows, and no two of the rows are equal in one
 abbrev pub AreIndexesIf : Database → Option Indexed → Type 0
-AreIndexesIf rows indexed = IfSome indexed (λ i. AreIndexesOf i.schema.now rows i.indexes.now × (are_any_alike i.schema.now rows ≡ false))
+AreIndexesIf rows indexed =
+    IfSome indexed (λ i. AreIndexesOf i.schema.now rows i.indexes.now × (are_any_alike i.schema.now rows ≡ false))
 
 -- ---- changes of one table
 

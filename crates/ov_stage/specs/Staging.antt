@@ -24,7 +24,9 @@ pub record Stage : Type 0 where
 
 -- a stage as a pair
 abbrev pub stage_code : Coded Stage
-stage_code = code_by (Database × Database) (coded× database_code database_code) (λ s. (s.before, s.now)) (λ p. record { before = p.0; now = p.1 }) (λ _. refl)
+stage_code =
+    code_by (Database × Database) (coded× database_code database_code) (λ s. (s.before, s.now))
+    (λ p. record { before = p.0; now = p.1 }) (λ _. refl)
 
 -- no change leaves its key as it was before
 abbrev pub Differs : Delta → Database → Type 0

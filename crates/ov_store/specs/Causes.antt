@@ -57,7 +57,9 @@ SaysOfCopy copy _ = ⊥
 
 -- why a copy in memory of a file and its log is refused: SQLite did not open it, or it is foreign
 abbrev pub IsCopyRefused : Image → KeepFault → Type 0
-IsCopyRefused copy fault = ((e : Error) × IsErrorInMemory copy e × (fault ≡ fault_of_open e) × SaysOfCopy copy fault) ⊎ ((fault ≡ NotOurs) × IsSomebodyElses copy)
+IsCopyRefused copy fault =
+    ((e : Error) × IsErrorInMemory copy e × (fault ≡ fault_of_open e) × SaysOfCopy copy fault)
+    ⊎ ((fault ≡ NotOurs) × IsSomebodyElses copy)
 
 -- a path that SQLite takes for something else than the name of a file: for a database in memory, or a URI
 abbrev pub IsReserved : List ℕ → Type 0
@@ -69,11 +71,13 @@ IsDrawRefused fault = (e : IoError) × WasAnswered Random e × (fault ≡ Device
 
 -- the path is reserved, or the system did not open the file at it and its log
 abbrev pub IsPairRefused : List ℕ → KeepFault → Type 0
-IsPairRefused path fault = (IsReserved path × (fault ≡ Device)) ⊎ ((e : OpenError) × WasAnswered (Opening path) e × IsPathFault e fault)
+IsPairRefused path fault =
+    (IsReserved path × (fault ≡ Device)) ⊎ ((e : OpenError) × WasAnswered (Opening path) e × IsPathFault e fault)
 
 -- the fault is that of the error with which SQLite did not open files that held this
 abbrev pub IsOpenRefused : Image → KeepFault → Type 0
-IsOpenRefused image fault = (error : Error) × WasAnswered (Connecting image) error × IsTrue (is_open_error error) × (fault ≡ fault_of_open error)
+IsOpenRefused image fault =
+    (error : Error) × WasAnswered (Connecting image) error × IsTrue (is_open_error error) × (fault ≡ fault_of_open error)
 
 module _ {D : Type 0} {g : disk.Ghosts D} where
   -- a call on the files failed
@@ -115,7 +119,8 @@ module _ {D : Type 0} (g : disk.Ghosts D) where
   -- why files in memory that held this are not opened
   abbrev pub FailsInMemory : Image → Error → Type 0
   FailsInMemory image e =
-      (e ≡ SqliteFailure OutOfMemory) ⊎ ((((e ≡ SqliteFailure NotADatabase) ⊎ (e ≡ SqliteFailure DatabaseCorrupt)) × (¬ IsOpenable image)) ⊎ MeetsLimit e)
+      (e ≡ SqliteFailure OutOfMemory)
+      ⊎ ((((e ≡ SqliteFailure NotADatabase) ⊎ (e ≡ SqliteFailure DatabaseCorrupt)) × (¬ IsOpenable image)) ⊎ MeetsLimit e)
 
   -- why empty files in memory are not opened
   abbrev pub FailsToBegin : Error → Type 0

@@ -34,14 +34,16 @@ module _ {S : Type 0} (g : Ghosts S) where
   pub record IsNewStore (text : List ℕ) (c : Connected S) (s : StoreState S) : Type 0 where
     pub blank : c.schema ≡ no_schema
     pub honest : HasCleanDisk (state g s.connection) → HasCleanDisk (state g c)
-    pub holds : HasCleanDisk (state g s.connection) → (contents : Stored) → MayFind g s.connection contents → contents ≡ new_contents text
+    pub holds : HasCleanDisk (state g s.connection) → (contents : Stored) → MayFind g s.connection contents
+        → contents ≡ new_contents text
 
   -- the connection had the tables of a stored format, and the store holds what was there
   pub record IsOldStore (c : Connected S) (s : StoreState S) : Type 0 where
     pub tables : HasOurTables c.schema
     pub honest : HasCleanDisk (state g s.connection) → HasCleanDisk (state g c)
     pub format : HasCleanDisk (state g s.connection) → IsFormat (text_in (state g c).now) (state g c).now
-    pub holds : HasCleanDisk (state g s.connection) → Opens (state g c) → (contents : Stored) → MayFind g s.connection contents → contents ≡ stored_in (state g c).now.trees
+    pub holds : HasCleanDisk (state g s.connection) → Opens (state g c) → (contents : Stored)
+        → MayFind g s.connection contents → contents ≡ stored_in (state g c).now.trees
 
   -- the store is one of the two
   abbrev pub IsStoreOf : List ℕ → Connected S → StoreState S → Type 0
@@ -50,7 +52,8 @@ module _ {S : Type 0} (g : Ghosts S) where
   -- a connection is foreign: it has the tables of no format, or these were tested, which left this, and `meta` names the format
   -- whose tables are not there
   abbrev pub IsForeign : Connected S → Connected S → Type 0
-  IsForeign c left = (¬ HasOurTables c.schema) ⊎ (HasOurTables c.schema × (HasCleanDisk (state g left) → NamesOther (state g c).now))
+  IsForeign c left =
+      (¬ HasOurTables c.schema) ⊎ (HasOurTables c.schema × (HasCleanDisk (state g left) → NamesOther (state g c).now))
 
   -- what the SQL schema alone does not say is the fault with which the making or the testing of the tables stopped
   abbrev pub IsToldOf : Connected S → KeepFault → Type 0
@@ -72,7 +75,8 @@ module _ {S : Type 0} (g : Ghosts S) where
   -- why what a crash left of a store is not one: it is among the contents that an open might find, and these are refused
   pub record IsRefusedAgain (s : StoreState S) (left : Connected S) (fault : KeepFault) : Type 0 where
     pub again : Connected S
-    pub opened : HasCleanDisk (state g again) → Opens (state g again) × MayFind g s.connection (stored_in (state g again).now.trees)
+    pub opened : HasCleanDisk (state g again)
+        → Opens (state g again) × MayFind g s.connection (stored_in (state g again).now.trees)
     pub ours : fault ≡ NotOurs → IsForeign again left
     pub foreign : ¬ HasOurTables again.schema → fault ≡ NotOurs
     pub format : fault ≡ Format → HasCleanDisk (state g left) → (any : List ℕ) → ¬ IsFormat any (state g again).now
@@ -95,7 +99,8 @@ pub record IsStoredIn (image : Image) (contents : Stored) : Type 0 where
 
 module _ {D : Type 0} {g : disk.Ghosts D} where
   -- SQLite opened the files and found what they held, which has no store
-  pub record IsFoundRefused (image : Image) (text : List ℕ) (fault : KeepFault) (found left : Connected (FileStore D g)) : Type 0 where
+  pub record IsFoundRefused (image : Image) (text : List ℕ) (fault : KeepFault)
+      (found left : Connected (FileStore D g)) : Type 0 where
     pub fresh : IsNew found
     pub opened : HasCleanDisk (file_state found) → IsOpened found
     pub holds : HasCleanDisk (file_state found) → FindsIn image (file_state found)
@@ -104,7 +109,9 @@ module _ {D : Type 0} {g : disk.Ghosts D} where
 module _ {D : Type 0} (g : disk.Ghosts D) where
   -- a refusal of the file at a path is one of three: by the look at it, as it was opened, or of what was found in it
   abbrev pub IsPathRefused : List ℕ → Image → List ℕ → KeepFault → Type 0
-  IsPathRefused path image text fault = (IsLookRefused path fault ⊎ IsUnopened g path image fault) ⊎ ((found : Connected (FileStore D g)) × (left : Connected (FileStore D g)) × IsFoundRefused image text fault found left)
+  IsPathRefused path image text fault =
+      (IsLookRefused path fault ⊎ IsUnopened g path image fault)
+      ⊎ ((found : Connected (FileStore D g)) × (left : Connected (FileStore D g)) × IsFoundRefused image text fault found left)
 
 module _ {D : Type 0} {g : disk.Ghosts D} where
   -- the same of the file at some path
@@ -115,4 +122,8 @@ module _ {D : Type 0} {g : disk.Ghosts D} where
   -- a refusal in memory is of the empty files, or of a connection that has no table
   abbrev pub IsMemoryRefused : List ℕ → Result (StoreState (FileStore D g)) KeepFault → Type 0
   IsMemoryRefused text (Ok s) = Unit {0}
-  IsMemoryRefused text (Err fault) = ((error : Error) × FailsToBegin g error × IsErrorInMemory (record { log = []; db = [] }) error × (fault ≡ fault_of_open error)) ⊎ ((found : Connected (FileStore D g)) × (left : Connected (FileStore D g)) × IsEmpty (file_state found) × IsRefused over_files text found left fault)
+  IsMemoryRefused text (Err fault) =
+      ((error : Error) × FailsToBegin g error × IsErrorInMemory (record { log = []; db = [] }) error
+      × (fault ≡ fault_of_open error))
+      ⊎ ((found : Connected (FileStore D g)) × (left : Connected (FileStore D g)) × IsEmpty (file_state found)
+      × IsRefused over_files text found left fault)

@@ -22,13 +22,16 @@ HasNoRoom e = WasAnswered Room alloc_error × (error_kind e ≡ kind.OutOfMemory
 
 -- there is a regular file of this size
 abbrev pub HasSize : List ℕ → ℕ → Type 0
-HasSize path size = (found : Metadata) × WasAnswered {A = Result Metadata Error} (Stat path) (Ok found) × IsFile (file_type found) × (size ≡ metadata_len found)
+HasSize path size =
+    (found : Metadata) × WasAnswered {A = Result Metadata Error} (Stat path) (Ok found) × IsFile (file_type found)
+    × (size ≡ metadata_len found)
 
 -- there is no regular file, or the system does not say
 abbrev pub HasNoSize : List ℕ → Error → Type 0
 HasNoSize path e =
     WasAnswered {A = Result Metadata Error} (Stat path) (Err e)
-    ⊎ ((found : Metadata) × WasAnswered {A = Result Metadata Error} (Stat path) (Ok found) × (¬ IsFile (file_type found)) × (error_kind e ≡ kind.Unsupported))
+    ⊎ ((found : Metadata) × WasAnswered {A = Result Metadata Error} (Stat path) (Ok found)
+    × (¬ IsFile (file_type found)) × (error_kind e ≡ kind.Unsupported))
 
 -- the log has this size, or there is none and it is 0
 abbrev pub HasLogSize : List ℕ → ℕ → Type 0
@@ -77,7 +80,8 @@ MayBeOpenedAt db = IsPlain db ⊎ ((copy : Image) × WasRead db copy × IsNobody
 
 -- why a file is refused unopened
 abbrev pub IsRefusedAt : List ℕ → KeepFault → Type 0
-IsRefusedAt db fault = ((e : Error) × FailsToLook db e × IsSystemFault e fault) ⊎ ((copy : Image) × WasRead db copy × IsCopyRefused copy fault)
+IsRefusedAt db fault =
+    ((e : Error) × FailsToLook db e × IsSystemFault e fault) ⊎ ((copy : Image) × WasRead db copy × IsCopyRefused copy fault)
 
 -- the same of a path that may have links in it: where there is no file, one may be made
 abbrev pub MayBeOpened : List ℕ → Type 0
@@ -88,5 +92,6 @@ MayBeOpened path =
 -- and any other failure refuses it
 abbrev pub IsLookRefused : List ℕ → KeepFault → Type 0
 IsLookRefused path fault =
-    ((e : Error) × WasAnswered {A = Result (List ℕ) Error} (RealPath path) (Err e) × (error_kind e ≢ kind.NotFound) × IsSystemFault e fault)
+    ((e : Error) × WasAnswered {A = Result (List ℕ) Error} (RealPath path) (Err e) × (error_kind e ≢ kind.NotFound)
+    × IsSystemFault e fault)
     ⊎ ((real : List ℕ) × WasAnswered {A = Result (List ℕ) Error} (RealPath path) (Ok real) × IsRefusedAt real fault)

@@ -13,7 +13,8 @@ use Rattle.ov_keeper.specs.declared.fault.KeepFault.TheVariants.{Memory, Device,
 
 -- the fault for an error of the system
 abbrev pub IsSystemFault : IoError → KeepFault → Type 0
-IsSystemFault e fault = ((fault ≡ Memory) × (error_kind e ≡ kind.OutOfMemory)) ⊎ ((fault ≡ Device) × (error_kind e ≢ kind.OutOfMemory))
+IsSystemFault e fault =
+    ((fault ≡ Memory) × (error_kind e ≡ kind.OutOfMemory)) ⊎ ((fault ≡ Device) × (error_kind e ≢ kind.OutOfMemory))
 
 -- the fault for an error at the opening of a file and its log
 abbrev pub IsPathFault : OpenError → KeepFault → Type 0

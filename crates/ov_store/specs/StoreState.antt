@@ -24,7 +24,9 @@ pub record StoreState (S : Type 0) : Type 0 where
 
 -- the state of a store, as pairs
 abbrev pub store_code : {S : Type 0} → Coded S → Coded (StoreState S)
-store_code {S} code = code_by ((Connected S × ℕ) × ℕ) (coded× (coded× (held_code code) coded_ℕ) coded_ℕ) (λ s. ((s.connection, s.format), s.failures))
+store_code {S} code =
+    code_by ((Connected S × ℕ) × ℕ) (coded× (coded× (held_code code) coded_ℕ) coded_ℕ)
+    (λ s. ((s.connection, s.format), s.failures))
     (λ p. record { connection = p.0.0; format = p.0.1; failures = p.1 }) (λ _. refl)
 
 -- the schema's text that `meta` has
@@ -46,24 +48,31 @@ module _ {S : Type 0} (g : Ghosts S) where
   pub record IsAtRest (c : Connected S) (format : ℕ) (read : Option Loaded) : Type 0 where
     pub mode : c.in_transaction ≡ false
     pub known : (format ≡ 1) ⊎ (format ≡ 2)
-    pub stored : HasCleanDisk (state g c) → IsTrue (state g c).is_open → IsStoredAs format (text_in (state g c).now) (state g c).now
+    pub stored : HasCleanDisk (state g c) → IsTrue (state g c).is_open
+        → IsStoredAs format (text_in (state g c).now) (state g c).now
     pub found : HasCleanDisk (state g c) → (contents : Stored) → MayFind c contents → format ≤ format_of contents.lines
     pub read_is : IfSome read (IsWhatIsFound c format)
 
   -- whatever an open may find is of the store's format
   abbrev pub IsOfItsFormat : StoreState S → Type 0
-  IsOfItsFormat s = HasCleanDisk (state g s.connection) → (contents : Stored) → MayFind s.connection contents → format_of contents.lines ≡ s.format
+  IsOfItsFormat s =
+      HasCleanDisk (state g s.connection) → (contents : Stored) → MayFind s.connection contents
+      → format_of contents.lines ≡ s.format
 
   -- apart from the rows that are stored, whatever an open may find now might have been found before
   abbrev pub LeavesOthers : Connected S → Connected S → Type 0
   LeavesOthers old new =
-      (trees : Trees) → (state g new).may_leave trees → (before : Trees) × (state g old).may_leave before × KeepsOthers (row_trees old.schema) old.schema before trees
+      (trees : Trees) → (state g new).may_leave trees
+      → (before : Trees) × (state g old).may_leave before × KeepsOthers (row_trees old.schema) old.schema before trees
 
   -- apart from the tables of the format, whatever an open may find now might have been found before
   abbrev pub LeavesRest : Connected S → Connected S → Type 0
   LeavesRest old new =
-      (trees : Trees) → (state g new).may_leave trees → (before : Trees) × (state g old).may_leave before × KeepsRest old.schema before trees
+      (trees : Trees) → (state g new).may_leave trees
+      → (before : Trees) × (state g old).may_leave before × KeepsRest old.schema before trees
 
   -- whatever an open may find now has the rows of each former table as an open might have found them before
   abbrev pub LeavesTables : Connected S → Connected S → Type 0
-  LeavesTables old new = (trees : Trees) → (state g new).may_leave trees → (before : Trees) × (state g old).may_leave before × KeepsRows old.schema.tables before trees
+  LeavesTables old new =
+      (trees : Trees) → (state g new).may_leave trees
+      → (before : Trees) × (state g old).may_leave before × KeepsRows old.schema.tables before trees

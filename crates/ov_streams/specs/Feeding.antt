@@ -1,4 +1,4 @@
--- What comes of a piece of an open session's stream.
+-- How a piece of an open session's stream changes a core and its cutter.
 use Rattle.std.specs.Prelude.{◌≡◌, ℕ, ◌==◌, ◌++◌, List, Bool, true, false}
 use Rattle.std.specs.List.{list_all}
 use Rattle.ov_specs.specs.wire.Message.{Message, asked}
@@ -15,7 +15,7 @@ pub record FedPiece : Type 0 where
   pub stream : List ℕ
   pub bytes : List ℕ
 
--- this session's, after this stream, of these bytes
+-- the piece with these bytes, after this stream of the session
 abbrev pub fed_piece : ℕ → List ℕ → List ℕ → FedPiece
 fed_piece session stream bytes = record { session = session; stream = stream; bytes = bytes }
 
@@ -26,7 +26,7 @@ is_event_of session (machine.Take other message) = other == session
 is_event_of session (machine.Close other cause) = other == session
 is_event_of session machine.Tick = false
 
--- so it was by this entry
+-- the entry's event is one of the session
 abbrev pub is_entry_of : ℕ → Entry → Bool
 is_entry_of session entry = is_event_of session entry.event
 
@@ -42,6 +42,7 @@ pub record EntersPiece {K D : Type 0} (at : ℕ) (piece : FedPiece) (old new : C
   pub messages : List Message
   pub more : (asked (piece.stream ++ piece.bytes)).messages ≡ (asked piece.stream).messages ++ messages
   pub entries : List Entry
-  pub feeds : Feeds (delivered at piece.session) old.state messages (asked (piece.stream ++ piece.bytes)).damaged entries new.state
+  pub feeds : Feeds (delivered at piece.session) old.state messages
+      (asked (piece.stream ++ piece.bytes)).damaged entries new.state
   pub enters : Extends old entries new
   pub goes_on : is_open new.state piece.session ≡ true → IsFed (piece.stream ++ piece.bytes) cutter

@@ -43,7 +43,8 @@ HasCutter n stream cutters = IsSomeAnd (cutter_of n cutters) (IsFed stream)
 
 -- The list of events expands to the history that the core has followed from its opening, and each open session has a cutter
 -- that was given its stream.
-pub record FollowsEvents {K D : Type 0} (schema : Schema) (database : Database) (list : List streams.StreamEvent) (history : List Entry) (given : ℕ → List (List ℕ)) (now : StreamsState K D) : Type 0 where
+pub record FollowsEvents {K D : Type 0} (schema : Schema) (database : Database) (list : List streams.StreamEvent)
+    (history : List Entry) (given : ℕ → List (List ℕ)) (now : StreamsState K D) : Type 0 where
   pub fed : Streams
   pub follows : Follows (opening schema database) history given now.core
   pub expands : ExpandsAll (fed_state (opening schema database) no_streams) list history (fed_state now.core.state fed)
@@ -53,7 +54,8 @@ pub record FollowsEvents {K D : Type 0} (schema : Schema) (database : Database) 
 -- entries that they expand to.
 abbrev pub RunsEvents : {K D : Type 0} → List streams.StreamEvent → StreamsState K D → StreamsState K D → Type 0
 RunsEvents events old new =
-    (schema : Schema) (database : Database) (list : List streams.StreamEvent) (history : List Entry) (given : ℕ → List (List ℕ)) → FollowsEvents schema database list history given old
+    (schema : Schema) (database : Database) (list : List streams.StreamEvent) (history : List Entry) (given : ℕ → List (List ℕ))
+    → FollowsEvents schema database list history given old
     → (entries : List Entry) × FollowsEvents schema database (list ++ events) (history ++ entries) given new
     × CountsWork old.core entries new.core
 

@@ -32,7 +32,8 @@ pub record AttemptState (K R : Type 0) : Type 0 where
 
 -- The transaction changes a database that is not sealed, and what follows its commit was made ready, with the changes and its
 -- results, or could not be because an allocation failed.
-pub record MadeReady {K R : Type 0} (readies : Readies R K) (outcome : TransactionOutcome) (old : AttemptState K R) (all : Bool) (ready : R) : Type 0 where
+pub record MadeReady {K R : Type 0} (readies : Readies R K) (outcome : TransactionOutcome) (old : AttemptState K R)
+    (all : Bool) (ready : R) : Type 0 where
   pub results : Items
   pub delta : Delta
   pub completes : outcome ≡ Completes results (applied delta old.database.committed)
@@ -43,15 +44,22 @@ pub record MadeReady {K R : Type 0} (readies : Readies R K) (outcome : Transacti
 -- The result of an attempt. If the transaction changes a database that is not sealed, all is made ready, and the database is
 -- as a commit of its changes leaves it; otherwise nothing is changed. If an allocation fails, the database is as before.
 abbrev pub IsTried : {K R : Type 0} → Readies R K → TransactionOutcome → AttemptState K R → Tried → AttemptState K R → Type 0
-IsTried readies outcome old (Answer results) new = (new.database ≡ old.database) × (new.ready ≡ old.ready) × IsUnstoredAnswer outcome old.database results
-IsTried readies outcome old (Stored answer) new = (r : MadeReady readies outcome old true new.ready) × Commits r.delta old.database answer new.database
-IsTried readies outcome old (Blocked timeout) new = (new.database ≡ old.database) × (new.ready ≡ old.ready) × (outcome ≡ Waits timeout)
-IsTried readies outcome old NoMemory new = (new.database ≡ old.database) × ((new.ready ≡ old.ready) ⊎ MadeReady readies outcome old false new.ready)
+IsTried readies outcome old (Answer results) new =
+    (new.database ≡ old.database) × (new.ready ≡ old.ready) × IsUnstoredAnswer outcome old.database results
+IsTried readies outcome old (Stored answer) new =
+    (r : MadeReady readies outcome old true new.ready) × Commits r.delta old.database answer new.database
+IsTried readies outcome old (Blocked timeout) new =
+    (new.database ≡ old.database) × (new.ready ≡ old.ready) × (outcome ≡ Waits timeout)
+IsTried readies outcome old NoMemory new =
+    (new.database ≡ old.database) × ((new.ready ≡ old.ready) ⊎ MadeReady readies outcome old false new.ready)
 
 -- the same for a transaction with these results and changes, for which the store is to be asked
 abbrev pub IsTriedInStore : {K R : Type 0} → Readies R K → Items → Delta → AttemptState K R → Tried → AttemptState K R → Type 0
-IsTriedInStore readies results delta old (Stored answer) new = readies old.ready old.database delta (replies_with results) true new.ready × Commits delta old.database answer new.database
-IsTriedInStore readies results delta old NoMemory new = (new.database ≡ old.database) × ((new.ready ≡ old.ready) ⊎ readies old.ready old.database delta (replies_with results) false new.ready)
+IsTriedInStore readies results delta old (Stored answer) new =
+    readies old.ready old.database delta (replies_with results) true new.ready × Commits delta old.database answer new.database
+IsTriedInStore readies results delta old NoMemory new =
+    (new.database ≡ old.database)
+    × ((new.ready ≡ old.ready) ⊎ readies old.ready old.database delta (replies_with results) false new.ready)
 IsTriedInStore readies results delta old (Answer others) new = ⊥
 IsTriedInStore readies results delta old (Blocked timeout) new = ⊥
 

@@ -11,7 +11,8 @@ use Rattle.ov_txn.specs.declared.perform.Performed.TheVariants.{Completed, Block
 
 -- the results, with the changes that lead to the database and are empty exactly if it is as before; or the timeout
 abbrev pub IsPerformed : TransactionOutcome → Database → Performed → Type 0
-IsPerformed outcome before (Completed results delta) = (outcome ≡ Completes results (applied delta before)) × ((len delta == 0) ≡ same_database before (applied delta before))
+IsPerformed outcome before (Completed results delta) =
+    (outcome ≡ Completes results (applied delta before)) × ((len delta == 0) ≡ same_database before (applied delta before))
 IsPerformed outcome before (Blocked timeout) = outcome ≡ Waits timeout
 
 -- the rows to be put are rows of the schema

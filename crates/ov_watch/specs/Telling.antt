@@ -14,4 +14,5 @@ told_at_first t r = under_id r.0 (option_map (λ names. with_new names r) t.init
 
 -- a change of a key, if it is in the table: the row before, and the row after
 abbrev pub told_change : Database → MonitoredTable → LineKey × Option Row → Option (List ℕ × Data)
-told_change before t change = if bytes_eq change.0.0 t.table then under_id change.0 (row_update t change.0 (get before change.0) change.1) else None
+told_change before t change =
+    if bytes_eq change.0.0 t.table then under_id change.0 (row_update t change.0 (get before change.0) change.1) else None

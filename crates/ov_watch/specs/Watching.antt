@@ -20,7 +20,8 @@ monitors_at session watching = unwrap_or (lookup (is_at (nat_cmp session)) watch
 
 -- the session then has these monitors, and each other session those that it had
 abbrev pub WatchesWith : ℕ → List Monitor → Watching → Watching → Type 0
-WatchesWith session monitors old new = (other : ℕ) → monitors_at other new ≡ (if other == session then monitors else monitors_at other old)
+WatchesWith session monitors old new =
+    (other : ℕ) → monitors_at other new ≡ (if other == session then monitors else monitors_at other old)
 
 -- each session has the same monitors
 abbrev pub SameWatching : Watching → Watching → Type 0
@@ -29,7 +30,8 @@ SameWatching old new = (other : ℕ) → monitors_at other new ≡ monitors_at o
 -- The session has the monitors that are given. If a fault is given instead, or an allocation failed, each session has the
 -- same monitors as before.
 abbrev pub WatchesAsGiven : ℕ → Result (List Monitor) MonitorFault → Watching → Result (Unit {0}) WatchFault → Watching → Type 0
-WatchesAsGiven session given old (Ok _) new = (monitors : List Monitor) × (given ≡ Ok monitors) × WatchesWith session monitors old new
+WatchesAsGiven session given old (Ok _) new =
+    (monitors : List Monitor) × (given ≡ Ok monitors) × WatchesWith session monitors old new
 WatchesAsGiven session given old (Err fault) new = IsWatchResult {A = Unit {0}} (λ _. []) given (Err fault) × SameWatching old new
 
 -- how a model stores the monitors of the sessions

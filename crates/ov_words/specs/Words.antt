@@ -28,7 +28,8 @@ with_database a = with_rule (with_rule a (option_rule (codes "schema"))) (option
 -- and those that say where: `[--stdio] [--listen ADDR] [--sessions N]`
 abbrev pub with_ends : App → App
 with_ends a =
-    with_rule (with_rule (with_rule a (flag_rule (codes "stdio"))) (option_rule (codes "listen"))) (option_rule (codes "sessions"))
+    with_rule (with_rule (with_rule a (flag_rule (codes "stdio"))) (option_rule (codes "listen")))
+    (option_rule (codes "sessions"))
 
 -- `ov_server [--schema FILE] [--db FILE] [--stdio] [--listen ADDR] [--sessions N]`
 abbrev pub app : App
@@ -65,7 +66,8 @@ fit_together value = if is_some (value (codes "listen"))
 
 -- none of the values is refused
 abbrev pub are_taken : (Text → Option Text) → Bool
-are_taken value = is_not_empty (value (codes "schema")) && is_not_empty (value (codes "db")) && is_not_empty (value (codes "listen"))
+are_taken value =
+    is_not_empty (value (codes "schema")) && is_not_empty (value (codes "db")) && is_not_empty (value (codes "listen"))
     && is_session_count (value (codes "sessions")) && fit_together value
 
 -- the settings, as the values give them

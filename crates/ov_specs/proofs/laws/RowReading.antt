@@ -9,7 +9,7 @@ use Rattle.ov_specs.specs.operations.Errors.{OpError}
 use Rattle.ov_specs.specs.operations.GivenRow.{named_value, row_read, with_values}
 use Rattle.ov_specs.specs.operations.Insert.{fitting_default, with_defaults}
 use Rattle.ov_specs.specs.rows.Database.{Columns}
-use Rattle.ov_specs.specs.rows.RowNames.{is_own_column}
+use Rattle.ov_specs.specs.rows.RowNames.{is_own_column, without_own_columns}
 use Rattle.ov_specs.specs.schema.SchemaTypes.{Column, Table, name_cmp}
 use Rattle.ov_specs.specs.values.Results.{result_map, result_and_then, each_or_fault}
 use Rattle.ov_specs.specs.values.Value.{Datum}
@@ -59,15 +59,12 @@ defaults_to (c ∷ cs) columns =
     if is_own_column c.0 || contains_key columns c.0 then defaults_to cs columns
     else result_and_then (λ datum. defaults_to cs (insert columns c.0 datum)) (fitting_default c.1)
 
--- of these the columns that a row needs and that are not given
-abbrev needed : List (List ℕ × Column) → List (List ℕ × Column)
-needed cs = filter (λ c. not (is_own_column c.0)) cs
-
+-- the columns that are not given
 abbrev lacking : Columns → List (List ℕ × Column) → List (List ℕ × Column)
 lacking columns cs = filter (λ c. not (contains_key columns c.0)) cs
 
 -- a column that was just put is none of those after it
-lacking_after : (columns : Columns) (name : List ℕ) (datum : Datum) (cs : List (List ℕ × Column)) → T (below_all name_cmp name cs) → lacking (insert columns name datum) (needed cs) ≡ lacking columns (needed cs)
+lacking_after : (columns : Columns) (name : List ℕ) (datum : Datum) (cs : List (List ℕ × Column)) → T (below_all name_cmp name cs) → lacking (insert columns name datum) (without_own_columns cs) ≡ lacking columns (without_own_columns cs)
 lacking_after columns name datum [] below = refl
 lacking_after columns name datum (c ∷ cs) below = by (is_own_column c.0) (lacking_after columns name datum cs (right_holds _ _ below))
   where
@@ -77,11 +74,11 @@ lacking_after columns name datum (c ∷ cs) below = by (is_own_column c.0) (lack
     other : contains_key (insert columns name datum) c.0 ≡ contains_key columns c.0
     other = ap is_some (get-insert name_cmp_total columns name datum c.0 ∙ ap (λ b. cond b (Some datum) (get columns c.0)) apart)
 
-    by : (own : Bool) → lacking (insert columns name datum) (needed cs) ≡ lacking columns (needed cs)
-        → lacking (insert columns name datum) (cond (not own) (c ∷ needed cs) (needed cs)) ≡ lacking columns (cond (not own) (c ∷ needed cs) (needed cs))
+    by : (own : Bool) → lacking (insert columns name datum) (without_own_columns cs) ≡ lacking columns (without_own_columns cs)
+        → lacking (insert columns name datum) (cond (not own) (c ∷ without_own_columns cs) (without_own_columns cs)) ≡ lacking columns (cond (not own) (c ∷ without_own_columns cs) (without_own_columns cs))
     by true later = later
     by false later =
-        ap (λ b. cond (not b) (c ∷ lacking (insert columns name datum) (needed cs)) (lacking (insert columns name datum) (needed cs))) other
+        ap (λ b. cond (not b) (c ∷ lacking (insert columns name datum) (without_own_columns cs)) (lacking (insert columns name datum) (without_own_columns cs))) other
         ∙ ap (λ rest. cond (not (contains_key columns c.0)) (c ∷ rest) rest) later
 
 abbrev default_found : List ℕ × Column → Result (List ℕ × Datum) OpError
@@ -89,7 +86,7 @@ default_found c = named_value c.0 (fitting_default c.1)
 
 -- the columns, and the defaults of those of these that are lacking
 abbrev lacking_put : Columns → List (List ℕ × Column) → Result Columns OpError
-lacking_put columns cs = put_to columns (each_or_fault default_found (lacking columns (needed cs)))
+lacking_put columns cs = put_to columns (each_or_fault default_found (lacking columns (without_own_columns cs)))
 
 -- one more column in front: it needs no default, or has a value, or is given its default
 default_first : (c : List ℕ × Column) (cs : List (List ℕ × Column)) (columns : Columns) → T (below_all name_cmp c.0 cs) → lacking_put columns cs ≡ defaults_to cs columns
@@ -97,20 +94,20 @@ default_first : (c : List ℕ × Column) (cs : List (List ℕ × Column)) (colum
 default_first c cs columns below same more = by (is_own_column c.0)
   where
     put_next : Datum → Result Columns OpError
-    put_next datum = put_to (insert columns c.0 datum) (each_or_fault default_found (lacking columns (needed cs)))
+    put_next datum = put_to (insert columns c.0 datum) (each_or_fault default_found (lacking columns (without_own_columns cs)))
 
     goes_on : (datum : Datum) → put_next datum ≡ defaults_to cs (insert columns c.0 datum)
     goes_on datum =
         ap (λ rest. put_to (insert columns c.0 datum) (each_or_fault default_found rest)) (sym (lacking_after columns c.0 datum cs below)) ∙ more datum
 
-    by_given : (there : Bool) → put_to columns (each_or_fault default_found (cond (not there) (c ∷ lacking columns (needed cs)) (lacking columns (needed cs))))
+    by_given : (there : Bool) → put_to columns (each_or_fault default_found (cond (not there) (c ∷ lacking columns (without_own_columns cs)) (lacking columns (without_own_columns cs))))
         ≡ cond there (defaults_to cs columns) (result_and_then (λ datum. defaults_to cs (insert columns c.0 datum)) (fitting_default c.1))
     by_given true = same
     by_given false =
-        put_first c.0 columns (fitting_default c.1) (each_or_fault default_found (lacking columns (needed cs)))
+        put_first c.0 columns (fitting_default c.1) (each_or_fault default_found (lacking columns (without_own_columns cs)))
         ∙ ap (λ next. result_and_then next (fitting_default c.1)) (λ i datum. goes_on datum i)
 
-    by : (own : Bool) → put_to columns (each_or_fault default_found (lacking columns (cond (not own) (c ∷ needed cs) (needed cs))))
+    by : (own : Bool) → put_to columns (each_or_fault default_found (lacking columns (cond (not own) (c ∷ without_own_columns cs) (without_own_columns cs))))
         ≡ cond (own || contains_key columns c.0) (defaults_to cs columns) (result_and_then (λ datum. defaults_to cs (insert columns c.0 datum)) (fitting_default c.1))
     by true = same
     by false = by_given (contains_key columns c.0)

@@ -53,7 +53,8 @@ change_from-change_to (Delete elements) = refl
 -- the code of what is done
 abbrev pub change_code : Coded Change
 change_code =
-    code_by ((Operator × ℤ) ⊎ (Datum ⊎ Datum)) (coded⊎ (coded× operator_code coded_ℤ) (coded⊎ datum_code datum_code)) change_to change_from change_from-change_to
+    code_by ((Operator × ℤ) ⊎ (Datum ⊎ Datum))
+    (coded⊎ (coded× operator_code coded_ℤ) (coded⊎ datum_code datum_code)) change_to change_from change_from-change_to
 
 -- the code of a mutation, as pairs of its parts
 abbrev pub mutation_code : Coded Mutation

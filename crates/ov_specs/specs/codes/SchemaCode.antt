@@ -34,12 +34,15 @@ kind_from-kind_to Uuids = refl
 
 -- the code of an atomic type
 abbrev pub kind_code : Coded AtomKind
-kind_code = code_by (Unit {0} ⊎ (Unit {0} ⊎ (Unit {0} ⊎ Unit {0}))) (coded⊎ coded_unit (coded⊎ coded_unit (coded⊎ coded_unit coded_unit))) kind_to kind_from kind_from-kind_to
+kind_code =
+    code_by (Unit {0} ⊎ (Unit {0} ⊎ (Unit {0} ⊎ Unit {0})))
+    (coded⊎ coded_unit (coded⊎ coded_unit (coded⊎ coded_unit coded_unit))) kind_to kind_from kind_from-kind_to
 
 -- the code of a reference, as the pair of its parts
 abbrev pub reference_code : Coded Reference
 reference_code =
-    code_by (List ℕ × Bool) (coded× (coded_list coded_ℕ) coded_bool) (λ r. (r.table, r.is_strong)) (λ p. record { table = p.0; is_strong = p.1 }) (λ _. refl)
+    code_by (List ℕ × Bool) (coded× (coded_list coded_ℕ) coded_bool) (λ r. (r.table, r.is_strong))
+    (λ p. record { table = p.0; is_strong = p.1 }) (λ _. refl)
 
 -- the code of two bounds
 abbrev bounds_code : Coded (Option ℤ × Option ℤ)
@@ -49,15 +52,25 @@ bounds_code = coded× (coded_option coded_ℤ) (coded_option coded_ℤ)
 abbrev pub base_type_code : Coded BaseType
 base_type_code =
     code_by ((AtomKind × Option AtomSet) × (((Option ℤ × Option ℤ) × (Option ℤ × Option ℤ)) × Option Reference))
-    (coded× (coded× kind_code (coded_option (map.code atom_code coded_unit))) (coded× (coded× bounds_code bounds_code) (coded_option reference_code)))
+    (coded× (coded× kind_code (coded_option (map.code atom_code coded_unit)))
+    (coded× (coded× bounds_code bounds_code) (coded_option reference_code)))
     (λ b. ((b.kind, b.choices), (((b.least, b.greatest), (b.shortest, b.longest)), b.refers)))
-    (λ p. record { kind = p.0.0; choices = p.0.1; least = p.1.0.0.0; greatest = p.1.0.0.1; shortest = p.1.0.1.0; longest = p.1.0.1.1; refers = p.1.1 })
+    (λ p. record {
+      kind = p.0.0;
+      choices = p.0.1;
+      least = p.1.0.0.0;
+      greatest = p.1.0.0.1;
+      shortest = p.1.0.1.0;
+      longest = p.1.0.1.1;
+      refers = p.1.1;
+    })
     (λ _. refl)
 
 -- the code of the type of a column, as pairs of its parts
 abbrev pub column_type_code : Coded ColumnType
 column_type_code =
-    code_by ((BaseType × Option BaseType) × (ℤ × Option ℤ)) (coded× (coded× base_type_code (coded_option base_type_code)) (coded× coded_ℤ (coded_option coded_ℤ)))
+    code_by ((BaseType × Option BaseType) × (ℤ × Option ℤ))
+    (coded× (coded× base_type_code (coded_option base_type_code)) (coded× coded_ℤ (coded_option coded_ℤ)))
     (λ t. ((t.key, t.value), (t.min, t.max)))
     (λ p. record { key = p.0.0; value = p.0.1; min = p.1.0; max = p.1.1 })
     (λ _. refl)
@@ -74,7 +87,8 @@ column_code =
 abbrev pub table_code : Coded Table
 table_code =
     code_by ((FinMap name_cmp Column × Option ℤ) × (Bool × List (List (List ℕ))))
-    (coded× (coded× (map.code (coded_list coded_ℕ) column_code) (coded_option coded_ℤ)) (coded× coded_bool (coded_list (coded_list (coded_list coded_ℕ)))))
+    (coded× (coded× (map.code (coded_list coded_ℕ) column_code) (coded_option coded_ℤ))
+    (coded× coded_bool (coded_list (coded_list (coded_list coded_ℕ)))))
     (λ t. ((t.columns, t.max_rows), (t.is_root, t.indexes)))
     (λ p. record { columns = p.0.0; max_rows = p.0.1; is_root = p.1.0; indexes = p.1.1 })
     (λ _. refl)
@@ -83,7 +97,8 @@ table_code =
 abbrev pub schema_code : Coded Schema
 schema_code =
     code_by ((List ℕ × Option (List ℕ)) × (FinMap name_cmp Table × Data))
-    (coded× (coded× (coded_list coded_ℕ) (coded_option (coded_list coded_ℕ))) (coded× (map.code (coded_list coded_ℕ) table_code) tree_code))
+    (coded× (coded× (coded_list coded_ℕ) (coded_option (coded_list coded_ℕ)))
+    (coded× (map.code (coded_list coded_ℕ) table_code) tree_code))
     (λ s. ((s.name, s.version), (s.tables, s.tree)))
     (λ p. record { name = p.0.0; version = p.0.1; tables = p.1.0; tree = p.1.1 })
     (λ _. refl)

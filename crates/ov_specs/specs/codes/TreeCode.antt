@@ -45,19 +45,33 @@ mutual
   tree_inj null null p = refl
   tree_inj (boolean b) (boolean c) p = let q : coded_bool.code b ≡ coded_bool.code c = cc in ap boolean (coded_bool.inj b c q)
   tree_inj (number m) (number n) p = let q : num_code m ≡ num_code n = cc in ap number (num_inj m n q)
-  tree_inj (string s) (string t) p = let q : (coded_list coded_ℕ).code s ≡ (coded_list coded_ℕ).code t = cc in ap string ((coded_list coded_ℕ).inj s t q)
+  tree_inj (string s) (string t) p =
+      let q : (coded_list coded_ℕ).code s ≡ (coded_list coded_ℕ).code t = cc in
+      ap string ((coded_list coded_ℕ).inj s t q)
   tree_inj (array ds) (array es) p = let q : items_to ds ≡ items_to es = cc in ap array (items_inj ds es q)
   tree_inj (object ms) (object ns) p = let q : members_to ms ≡ members_to ns = cc in ap object (members_inj ms ns q)
   tree_inj x y p = cc
 
   pub items_inj : (x y : Items) → items_to x ≡ items_to y → x ≡ y
   items_inj no_items no_items p = refl
-  items_inj (item d ds) (item e es) p = let q : tree_to d ≡ tree_to e = cc in let r : items_to ds ≡ items_to es = cc in let s = tree_inj d e q in let t = items_inj ds es r in cc
+  items_inj (item d ds) (item e es) p =
+      let q : tree_to d ≡ tree_to e = cc in
+      let r : items_to ds ≡ items_to es = cc in
+      let s = tree_inj d e q in
+      let t = items_inj ds es r in
+      cc
   items_inj x y p = cc
 
   pub members_inj : (x y : Members) → members_to x ≡ members_to y → x ≡ y
   members_inj no_members no_members p = refl
-  members_inj (member k d ms) (member l e ns) p = let o : (coded_list coded_ℕ).code k ≡ (coded_list coded_ℕ).code l = cc in let q : tree_to d ≡ tree_to e = cc in let r : members_to ms ≡ members_to ns = cc in let u = (coded_list coded_ℕ).inj k l o in let s = tree_inj d e q in let t = members_inj ms ns r in cc
+  members_inj (member k d ms) (member l e ns) p =
+      let o : (coded_list coded_ℕ).code k ≡ (coded_list coded_ℕ).code l = cc in
+      let q : tree_to d ≡ tree_to e = cc in
+      let r : members_to ms ≡ members_to ns = cc in
+      let u = (coded_list coded_ℕ).inj k l o in
+      let s = tree_inj d e q in
+      let t = members_inj ms ns r in
+      cc
   members_inj x y p = cc
 
 -- the code of a tree

@@ -29,7 +29,9 @@ atom_from-atom_to (Uuid bytes) = refl
 
 -- the code of an atom
 abbrev pub atom_code : Coded Atom
-atom_code = code_by (ℤ ⊎ (Bool ⊎ (List ℕ ⊎ List ℕ))) (coded⊎ coded_ℤ (coded⊎ coded_bool (coded⊎ (coded_list coded_ℕ) (coded_list coded_ℕ)))) atom_to atom_from atom_from-atom_to
+atom_code =
+    code_by (ℤ ⊎ (Bool ⊎ (List ℕ ⊎ List ℕ)))
+    (coded⊎ coded_ℤ (coded⊎ coded_bool (coded⊎ (coded_list coded_ℕ) (coded_list coded_ℕ)))) atom_to atom_from atom_from-atom_to
 
 -- a value as one of two
 abbrev datum_to : Datum → AtomSet ⊎ AtomMap
@@ -48,4 +50,6 @@ datum_from-datum_to (Pairs pairs) = refl
 
 -- the code of a value
 abbrev pub datum_code : Coded Datum
-datum_code = code_by (AtomSet ⊎ AtomMap) (coded⊎ (map.code atom_code coded_unit) (map.code atom_code atom_code)) datum_to datum_from datum_from-datum_to
+datum_code =
+    code_by (AtomSet ⊎ AtomMap)
+    (coded⊎ (map.code atom_code coded_unit) (map.code atom_code atom_code)) datum_to datum_from datum_from-datum_to

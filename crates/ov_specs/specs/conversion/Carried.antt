@@ -32,7 +32,8 @@ carried_row old new version before r = (r.0, row_now before version r.0 (carried
 -- the row, if its table is in both schemas; other rows are dropped
 abbrev pub carried_if_kept : Schema → Schema → Uuid → Database → LineKey × Row → Option (LineKey × Row)
 carried_if_kept old new version before r =
-    option_and_then (λ from. option_map (λ to. carried_row from to version before r) (get new.tables r.0.0)) (get old.tables r.0.0)
+    option_and_then (λ from. option_map (λ to. carried_row from to version before r) (get new.tables r.0.0))
+    (get old.tables r.0.0)
 
 -- the rows of tables that both schemas have
 abbrev pub carried : Schema → Schema → Uuid → Database → Database

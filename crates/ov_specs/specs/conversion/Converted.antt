@@ -39,7 +39,8 @@ is_of_changed_type old c = is_some_and (λ column. not (same_type column.type_of
 -- such a column is in a table of both schemas (RFC 7047, 3.2, <type>)
 abbrev pub has_changed_type : Schema → Schema → Bool
 has_changed_type old new =
-    list_any (λ t. is_some_and (λ table. list_any (is_of_changed_type table) (row_columns t.1)) (get old.tables t.0)) (entries new.tables)
+    list_any (λ t. is_some_and (λ table. list_any (is_of_changed_type table) (row_columns t.1)) (get old.tables t.0))
+    (entries new.tables)
 
 -- ---- what the rows of a table need
 
@@ -54,7 +55,9 @@ has_row rows name = not (is_empty (rows_of name rows))
 -- a table that has a row gets such a column
 abbrev pub gets_unfit_default : Schema → Schema → Database → Bool
 gets_unfit_default old new rows =
-    list_any (λ t. has_row rows t.0 && is_some_and (λ table. list_any (lacks_default table) (row_columns t.1)) (get old.tables t.0)) (entries new.tables)
+    list_any
+    (λ t. has_row rows t.0 && is_some_and (λ table. list_any (lacks_default table) (row_columns t.1)) (get old.tables t.0))
+    (entries new.tables)
 
 -- ---- the conversion
 

@@ -49,7 +49,8 @@ pruned_value rows (Some column) datum = pruned_datum rows column.type_of datum
 -- the columns of a row of the table without them
 abbrev pub pruned_columns : Database → Option Table → Columns → Columns
 pruned_columns rows None columns = columns
-pruned_columns rows (Some table) columns = from_entries (map (λ c. (c.0, pruned_value rows (get table.columns c.0) c.1)) (entries columns))
+pruned_columns rows (Some table) columns =
+    from_entries (map (λ c. (c.0, pruned_value rows (get table.columns c.0) c.1)) (entries columns))
 
 -- the row has one of them
 abbrev pub dangles : Schema → Database → LineKey × Row → Bool
@@ -62,7 +63,8 @@ pruned_row schema before version rows r =
 
 -- all rows without weak references to rows that are not there
 abbrev pub pruned : Schema → Database → Uuid → Database → Database
-pruned schema before version rows = from_sorted {R = line_cmp} (map (λ r. (r.0, pruned_row schema before version rows r)) (entries rows))
+pruned schema before version rows =
+    from_sorted {R = line_cmp} (map (λ r. (r.0, pruned_row schema before version rows r)) (entries rows))
 
 -- ---- the commit
 

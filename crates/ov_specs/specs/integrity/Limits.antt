@@ -54,4 +54,5 @@ has_duplicates rows t = list_any (λ index. has_two_alike index (rows_of t.0 row
 
 -- a table has too many rows, or two that are alike in an index
 abbrev pub is_over_limits : Schema → Database → Bool
-is_over_limits schema rows = list_any (has_too_many rows) (entries schema.tables) || list_any (has_duplicates rows) (entries schema.tables)
+is_over_limits schema rows =
+    list_any (has_too_many rows) (entries schema.tables) || list_any (has_duplicates rows) (entries schema.tables)

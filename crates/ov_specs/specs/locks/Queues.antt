@@ -119,7 +119,8 @@ freed_before (Some session) name others = (session, name) ∷ others
 -- the sessions that become owners as the locks of these names are unlocked, each with the lock's name
 abbrev pub freed_all : ℕ → List (List ℕ) → Queues → List (ℕ × List ℕ)
 freed_all session [] queues = []
-freed_all session (name ∷ names) queues = freed_before (next_owner name session queues) name (freed_all session names (unlock name session queues))
+freed_all session (name ∷ names) queues =
+    freed_before (next_owner name session queues) name (freed_all session names (unlock name session queues))
 
 -- a session that closes unlocks each lock that it asked for, in ascending order of the names
 abbrev pub leave : ℕ → Queues → Queues

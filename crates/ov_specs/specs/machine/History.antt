@@ -47,9 +47,11 @@ cause_in session Tick = Memory
 
 -- why the event between these two states closes the session, if it does: it is open before, and not after
 abbrev pub closing_cause : ℕ → State → Event → State → Option Cause
-closing_cause session before event after = if is_open before session && not (is_open after session) then Some (cause_in session event) else None
+closing_cause session before event after =
+    if is_open before session && not (is_open after session) then Some (cause_in session event) else None
 
 -- why one of the entries closed the session, starting from this state; a serial is never used again
 abbrev pub closed_by : State → List Entry → ℕ → Option Cause
 closed_by s [] session = None
-closed_by s (e ∷ history) session = option_and_then (λ t. option_or (closing_cause session s e.event t.state) (closed_by t.state history session)) (step s e)
+closed_by s (e ∷ history) session =
+    option_and_then (λ t. option_or (closing_cause session s e.event t.state) (closed_by t.state history session)) (step s e)

@@ -91,7 +91,16 @@ pub record State : Type 0 where
 
 -- before any event: the database as it was opened, no open session, and no lock asked for; serials begin with 1
 abbrev pub opening : Schema → Database → State
-opening schema database = record { schema = schema; database = database; sealed = None; sessions = []; queues = []; outstanding = []; next = 1; moment = 0 }
+opening schema database = record {
+  schema = schema;
+  database = database;
+  sealed = None;
+  sessions = [];
+  queues = [];
+  outstanding = [];
+  next = 1;
+  moment = 0;
+}
 
 -- What a crash may leave: the database as it was committed, or the one that a failed commit would have made.
 abbrev pub Left : State → Database → Type 0
@@ -159,7 +168,8 @@ last_moment = 18446744073709551615
 
 -- when the transaction times out, if it has a timeout and that moment is not after the last one
 abbrev pub timeout_of : Outstanding → Option ℕ
-timeout_of o = option_and_then (λ timeout. if nat_le (o.arrival + timeout) last_moment then Some (o.arrival + timeout) else None) o.timeout
+timeout_of o =
+    option_and_then (λ timeout. if nat_le (o.arrival + timeout) last_moment then Some (o.arrival + timeout) else None) o.timeout
 
 -- the least of this and that one, if there is one
 abbrev pub least_with : ℕ → Option ℕ → ℕ
@@ -214,7 +224,8 @@ transact_work s session id operations =
 -- a transaction on the named database, which must be the one that is served (RFC 7047, 4.1.3)
 abbrev pub transact_call_on : State → ℕ → Data → Option (List ℕ) → Items → Work
 transact_call_on s session id None operations = refused id (codes "syntax error")
-transact_call_on s session id (Some name) operations = if bytes_eq name s.schema.name then transact_work s session id operations else refused id (codes "unknown database")
+transact_call_on s session id (Some name) operations =
+    if bytes_eq name s.schema.name then transact_work s session id operations else refused id (codes "unknown database")
 
 -- the params of "transact": the name of a database, and then the operations (RFC 7047, 4.1.3)
 abbrev pub transact_call : State → ℕ → Data → Items → Work
@@ -224,7 +235,8 @@ transact_call s session id (item d operations) = transact_call_on s session id (
 -- the schema, as it was read, of the named database, which must be the one that is served (RFC 7047, 4.1.2)
 abbrev pub schema_call_on : State → Data → Option (List ℕ) → Work
 schema_call_on s id None = refused id (codes "syntax error")
-schema_call_on s id (Some name) = if bytes_eq name s.schema.name then answered id s.schema.tree else refused id (codes "unknown database")
+schema_call_on s id (Some name) =
+    if bytes_eq name s.schema.name then answered id s.schema.tree else refused id (codes "unknown database")
 
 -- the params of "get_schema": the name of a database, and no more (RFC 7047, 4.1.2)
 abbrev pub schema_call : State → Data → Items → Work
@@ -257,12 +269,14 @@ monitor_work s id name (Err fault) = refused id (monitor_fault_text fault)
 abbrev pub monitor_call_on : State → ℕ → Data → Option (List ℕ) → Data → Data → Work
 monitor_call_on s session id None name requests = refused id (codes "syntax error")
 monitor_call_on s session id (Some database) name requests =
-    if bytes_eq database s.schema.name then monitor_work s id name (added s.schema (monitors_of session s) name requests) else refused id (codes "unknown database")
+    if bytes_eq database s.schema.name then monitor_work s id name (added s.schema (monitors_of session s) name requests)
+    else refused id (codes "unknown database")
 
 -- the params of "monitor": the name of a database, that of the monitor, and an object of requests (RFC 7047, 4.1.5)
 abbrev pub monitor_call : State → ℕ → Data → Items → Work
 monitor_call s session id (item d (item name (item requests no_items))) =
-    if is_some (as_object requests) then monitor_call_on s session id (as_str d) name requests else refused id (codes "syntax error")
+    if is_some (as_object requests) then monitor_call_on s session id (as_str d) name requests
+    else refused id (codes "syntax error")
 monitor_call s session id params = refused id (codes "syntax error")
 
 -- the monitors without one (RFC 7047, 4.1.7)
@@ -299,7 +313,8 @@ cancel_notification s session (item id (item d items)) = Answers []
 
 -- what a notification asks for: nothing but to cancel (RFC 7047, 4.1.4)
 abbrev pub notification_of : State → ℕ → List ℕ → Items → Work
-notification_of s session method params = if bytes_eq method (codes "cancel") then cancel_notification s session params else Answers []
+notification_of s session method params =
+    if bytes_eq method (codes "cancel") then cancel_notification s session params else Answers []
 
 -- what a message of the session asks for: a reply asks for nothing, and what can't be taken is answered with an error
 -- (JSON-RPC 1.0, 1)
@@ -339,15 +354,22 @@ results_to session id results = to_session session (results_of id results)
 -- what the monitors report of a change of the database, by session in order of opening, and by monitor in order of creation
 -- (RFC 7047, 4.1.6; the order is this server's)
 abbrev pub updates_sent : Database → Database → List Session → List Sent
-updates_sent before after sessions = flat_map (λ n. to_session n.serial (map update_notification (all_updates before after n.monitors))) sessions
+updates_sent before after sessions =
+    flat_map (λ n. to_session n.serial (map update_notification (all_updates before after n.monitors))) sessions
 
 -- What comes of the store's answer. If it keeps the change, the database is the new one, and the updates of the monitors are
 -- sent before the reply. If it refuses the change for lack of memory or for its size, nothing is changed. If it fails, the
 -- database stays and is sealed.
 abbrev pub commits : State → ℕ → Data → Items → Database → Option Outcome → Option Stepped
-commits s session id results database (Some Committed) = Some (record { state = record s { database = database }; sent = updates_sent s.database database s.sessions ++ results_to session id results })
-commits s session id results database (Some Exhausted) = Some (record { state = s; sent = results_to session id (exhausted_results results) })
-commits s session id results database (Some Failed) = Some (record { state = record s { sealed = Some database }; sent = results_to session id (failed_results results) })
+commits s session id results database (Some Committed) =
+    Some (record {
+      state = record s { database = database };
+      sent = updates_sent s.database database s.sessions ++ results_to session id results;
+    })
+commits s session id results database (Some Exhausted) =
+    Some (record { state = s; sent = results_to session id (exhausted_results results) })
+commits s session id results database (Some Failed) =
+    Some (record { state = record s { sealed = Some database }; sent = results_to session id (failed_results results) })
 commits s session id results database outcome = None
 
 -- What comes of a transaction with these results and this database after it. If that is the database as it was, the store is
@@ -361,7 +383,8 @@ completes s session id results database outcome =
 
 -- a transaction of the session as it arrives
 abbrev pub arrived : State → ℕ → Data → List Uuid → Items → Outstanding
-arrived s session id draws operations = record { session = session; id = id; draws = draws; operations = operations; arrival = s.moment; timeout = None }
+arrived s session id draws operations =
+    record { session = session; id = id; draws = draws; operations = operations; arrival = s.moment; timeout = None }
 
 -- the transaction waits, as the last one, with the timeout of the wait that blocks it
 abbrev pub waits_on : State → Outstanding → Option ℕ → State
@@ -390,7 +413,9 @@ pub record Listed : Type 0 where
 -- what is listed of the attempt with this number, once the attempts before it are off the list
 abbrev pub listed : ℕ → List Attempt → Listed
 listed number [] = record { outcome = None; others = [] }
-listed number (a ∷ attempts) = if a.number == number then record { outcome = Some a.outcome; others = attempts } else record { outcome = None; others = a ∷ attempts }
+listed number (a ∷ attempts) =
+    if a.number == number then record { outcome = Some a.outcome; others = attempts }
+    else record { outcome = None; others = a ∷ attempts }
 
 -- what an attempt comes to, and what is listed of the attempts after it
 pub record Tried : Type 0 where
@@ -399,7 +424,8 @@ pub record Tried : Type 0 where
 
 -- The attempt with this number takes what is listed of it, and passes on what is listed of those after it.
 abbrev pub tries : (Option Outcome → Option Stepped) → ℕ → List Attempt → Option Tried
-tries attempt number attempts = option_map (λ t. record { stepped = t; others = (listed number attempts).others }) (attempt (listed number attempts).outcome)
+tries attempt number attempts =
+    option_map (λ t. record { stepped = t; others = (listed number attempts).others }) (attempt (listed number attempts).outcome)
 
 -- nothing more is tried, so no more attempts may be listed
 abbrev pub ends : Option Tried → Option Stepped
@@ -434,11 +460,16 @@ pub record Passed : Type 0 where
 
 -- nothing was tried, or nothing more is
 abbrev pub passed : State → ℕ → List Attempt → Bool → Passed
-passed s number attempts has_changed = record { tried = record { stepped = record { state = s; sent = [] }; others = attempts }; next = number; has_changed = has_changed }
+passed s number attempts has_changed = record {
+  tried = record { stepped = record { state = s; sent = [] }; others = attempts };
+  next = number;
+  has_changed = has_changed;
+}
 
 -- these are sent first, and then what was sent on the way
 abbrev pub passes_after : List Sent → Passed → Passed
-passes_after sent p = record p { tried = record p.tried { stepped = record p.tried.stepped { sent = sent ++ p.tried.stepped.sent } } }
+passes_after sent p =
+    record p { tried = record p.tried { stepped = record p.tried.stepped { sent = sent ++ p.tried.stepped.sent } } }
 
 -- the transactions of sessions that are open
 abbrev pub still_waiting : State → List Outstanding → List Outstanding
@@ -468,7 +499,9 @@ pass s number attempts (o ∷ waiting) =
 abbrev pub settle_within : ℕ → State → ℕ → List Attempt → Option Passed
 settle_within zero s number attempts = Some (passed s number attempts false)
 settle_within (suc most) s number attempts = option_and_then
-    (λ p. if p.has_changed then option_map (passes_after p.tried.stepped.sent) (settle_within most p.tried.stepped.state p.next p.tried.others) else Some p)
+    (λ p. if p.has_changed
+    then option_map (passes_after p.tried.stepped.sent) (settle_within most p.tried.stepped.state p.next p.tried.others)
+    else Some p)
     (pass (record s { outstanding = [] }) number attempts s.outstanding)
 
 -- all waiting transactions are tried, beginning with the attempt of this number
@@ -497,16 +530,23 @@ draws_for (Watches id result monitors) = 0
 abbrev pub locks : State → ℕ → LockCall → Data → List ℕ → Stepped
 locks s session call id name = record {
   state = record s { queues = after_call call name session s.queues };
-  sent = to_session session (reply_tree id (call_result call name s.queues) ∷ []) ++ told (option_to_list (told_of_call call name session s.queues));
+  sent =
+      to_session session (reply_tree id (call_result call name s.queues) ∷ [])
+      ++ told (option_to_list (told_of_call call name session s.queues));
 }
 
 -- the work, done with the identifiers that were drawn for it, and with the store's answer if it was asked
 abbrev pub does : State → ℕ → List Uuid → Option Outcome → Work → Option Stepped
 does s session draws outcome (Answers trees) = sends_at_once s (to_session session trees) outcome
-does s session draws outcome (Transact id operations) = attempt s (arrived s session id draws operations) (transaction s.schema s.database (owns s.queues session) draws 0 operations) outcome
-does s session draws outcome (Cancels id) = sends_at_once (without_request session id s) (to_session session (failure_tree id (codes "canceled") ∷ [])) outcome
-does s session draws outcome (Locks call id name) = sends_at_once (locks s session call id name).state (locks s session call id name).sent outcome
-does s session draws outcome (Watches id result monitors) = sends_at_once (with_monitors session monitors s) (to_session session (reply_tree id result ∷ [])) outcome
+does s session draws outcome (Transact id operations) =
+    attempt s (arrived s session id draws operations)
+    (transaction s.schema s.database (owns s.queues session) draws 0 operations) outcome
+does s session draws outcome (Cancels id) =
+    sends_at_once (without_request session id s) (to_session session (failure_tree id (codes "canceled") ∷ [])) outcome
+does s session draws outcome (Locks call id name) =
+    sends_at_once (locks s session call id name).state (locks s session call id name).sent outcome
+does s session draws outcome (Watches id result monitors) =
+    sends_at_once (with_monitors session monitors s) (to_session session (reply_tree id result ∷ [])) outcome
 
 -- The work, with the identifiers drawn for it and what is listed of it. If an allocation failed, at most as many were drawn
 -- as are wanted, and the session is closed; else exactly as many were drawn, and the work is done.
@@ -525,7 +565,8 @@ then_settles true t = option_map (λ p. (passes_after t.stepped.sent p).tried) (
 
 -- the work on a message, and the tries that it leads to
 abbrev pub takes_and_settles : State → Choice → ℕ → Message → Option Tried
-takes_and_settles s c session message = option_and_then (then_settles (is_kept (listed 1 c.outcomes).outcome)) (takes s c session message)
+takes_and_settles s c session message =
+    option_and_then (then_settles (is_kept (listed 1 c.outcomes).outcome)) (takes s c session message)
 
 -- the event, at a moment that is the state's
 abbrev pub happens : State → Choice → Event → Option Stepped

@@ -33,7 +33,7 @@ pub record Delivery : Type 0 where
   pub moment : ℕ
   pub session : ℕ
 
--- such a piece
+-- the delivery of a piece to a session, at a moment
 abbrev pub delivered : ℕ → ℕ → Delivery
 delivered moment session = record { moment = moment; session = session }
 
@@ -68,7 +68,7 @@ pub record FedState : Type 0 where
   pub state : State
   pub streams : Streams
 
--- these two
+-- the record of a state and its streams
 abbrev pub fed_state : State → Streams → FedState
 fed_state state streams = record { state = state; streams = streams }
 

@@ -63,7 +63,8 @@ on_flag name d next = option_and_then next (flag_read (find.get name d))
 -- the four flags (RFC 7047, 4.1.5, <monitor-select>)
 abbrev pub flags_read : Data → Option MonitorSelect
 flags_read d =
-    on_flag (codes "initial") d (λ initial. on_flag (codes "insert") d (λ insert. on_flag (codes "delete") d (λ delete. on_flag (codes "modify") d (λ modify.
+    on_flag (codes "initial") d (λ initial. on_flag (codes "insert") d (λ insert.
+    on_flag (codes "delete") d (λ delete. on_flag (codes "modify") d (λ modify.
     Some (record { initial = initial; insert = insert; delete = delete; modify = modify })))))
 
 -- "select": an object of flags, which may be left out (RFC 7047, 4.1.5, <monitor-request>)
@@ -83,7 +84,9 @@ with_columns columns select = option_map (λ s. record { columns = columns; sele
 -- an object of "columns" and "select" (RFC 7047, 4.1.5, <monitor-request>)
 abbrev pub request_read : Data → Option MonitorRequest
 request_read d = option_and_then (λ members.
-    option_and_then (λ columns. with_columns columns (select_read (find.get (codes "select") d))) (columns_read (find.get (codes "columns") d))) (as_object d)
+    option_and_then (λ columns. with_columns columns (select_read (find.get (codes "select") d)))
+    (columns_read (find.get (codes "columns") d)))
+    (as_object d)
 
 -- each request of an array, or the one that stands by itself (RFC 7047, 4.1.5, <monitor-requests>; that it may is this
 -- server's choice)
@@ -127,7 +130,8 @@ is_one_of (Some names) name = list_any (bytes_eq name) names
 -- the columns of the table that one of the requests is about, or None if there is no request
 abbrev pub told_columns : Table → List MonitorRequest → Option (List (List ℕ))
 told_columns table [] = None
-told_columns table (r ∷ requests) = Some (filter (λ name. list_any (λ request. is_one_of request.columns name) (r ∷ requests)) (keys table.columns))
+told_columns table (r ∷ requests) =
+    Some (filter (λ name. list_any (λ request. is_one_of request.columns name) (r ∷ requests)) (keys table.columns))
 
 -- at each kind of change the columns are those of the requests that select it (RFC 7047, 4.1.5, <monitor-select>)
 abbrev pub monitored : Table → TableRequests → MonitoredTable
@@ -142,7 +146,8 @@ monitored table t = record {
 -- The table is one of the schema's, and has the columns that are named.
 abbrev pub monitored_table : Option Table → TableRequests → Result MonitoredTable MonitorFault
 monitored_table None t = Err UnknownTable
-monitored_table (Some table) t = if list_all (contains_key table.columns) (requested_columns t.1) then Ok (monitored table t) else Err UnknownColumn
+monitored_table (Some table) t =
+    if list_all (contains_key table.columns) (requested_columns t.1) then Ok (monitored table t) else Err UnknownColumn
 
 -- the tables in ascending order, each checked wholly before the next one
 abbrev pub monitored_tables : Schema → List TableRequests → Result (List MonitoredTable) MonitorFault

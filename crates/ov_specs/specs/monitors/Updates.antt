@@ -58,7 +58,8 @@ under_id key update = option_map (λ d. (hyphenated_text lower key.1, d)) update
 
 -- its rows at first (RFC 7047, 4.1.5)
 abbrev pub initial_rows : Database → MonitoredTable → List (List ℕ × Data)
-initial_rows database t = filter_map (λ r. under_id r.0 (option_map (λ names. with_new names r) t.initial)) (rows_of t.table database)
+initial_rows database t =
+    filter_map (λ r. under_id r.0 (option_map (λ names. with_new names r) t.initial)) (rows_of t.table database)
 
 -- the keys of all rows that are there before or after, in ascending order
 abbrev pub all_keys : Database → Database → List LineKey
@@ -70,7 +71,8 @@ keys_of name before after = filter (λ key. bytes_eq key.0 name) (all_keys befor
 
 -- its rows that are reported (RFC 7047, 4.1.6, <table-update>)
 abbrev pub updated_rows : Database → Database → MonitoredTable → List (List ℕ × Data)
-updated_rows before after t = filter_map (λ key. under_id key (row_update t key (get before key) (get after key))) (keys_of t.table before after)
+updated_rows before after t =
+    filter_map (λ key. under_id key (row_update t key (get before key) (get after key))) (keys_of t.table before after)
 
 -- ---- all tables
 

@@ -13,4 +13,5 @@ asserted_lock d = lock_name (text_at (codes "lock") d)
 
 -- the result {}, if the session owns the lock when the transaction is tried (RFC 7047, 5.2.10)
 abbrev pub assert_outcome : OpContext → Database → Data → OpOutcome
-assert_outcome c rows d = some_or_fault (asserted_lock d) SyntaxError (λ name. if c.owns name then Done empty_result rows else Fault NotOwner)
+assert_outcome c rows d =
+    some_or_fault (asserted_lock d) SyntaxError (λ name. if c.owns name then Done empty_result rows else Fault NotOwner)

@@ -9,4 +9,5 @@ use Rattle.ov_specs.specs.rows.Database.{Database}
 
 -- "durable" is either truth value (RFC 7047, 5.2.7)
 abbrev pub commit_outcome : Database → Data → OpOutcome
-commit_outcome rows d = some_or_fault (option_and_then as_bool (find.get (codes "durable") d)) SyntaxError (λ durable. Done empty_result rows)
+commit_outcome rows d =
+    some_or_fault (option_and_then as_bool (find.get (codes "durable") d)) SyntaxError (λ durable. Done empty_result rows)

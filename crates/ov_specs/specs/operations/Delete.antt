@@ -12,4 +12,5 @@ deletes found rows = Done (count_result (length found)) (without_rows (map (λ r
 
 -- Its members are checked in this order: "table", "where" (RFC 7047, 5.2.5; the order is this server's).
 abbrev pub delete_outcome : OpContext → Database → Data → OpOutcome
-delete_outcome c rows d = on_table c d (λ name table. on_conditions c table d (λ conditions. deletes (matching rows name conditions) rows))
+delete_outcome c rows d =
+    on_table c d (λ name table. on_conditions c table d (λ conditions. deletes (matching rows name conditions) rows))

@@ -38,11 +38,10 @@ given_value may_be names name None d = Err UnknownColumn
 given_value may_be names name (Some column) d =
     if may_be name column then fitting_reading column (reads names (kinds_of column.type_of) d) else Err ConstraintViolation
 
--- the map with these values at their keys, in place of those that stood there; the keys of columns are their names (RFC 7047,
--- 5.2.3)
+-- the map with these entries put in order; a later one replaces an earlier one of its key
 abbrev pub with_values : {K V : Type 0} {R : K → K → Ordering} → List (K × V) → FinMap R V → FinMap R V
-with_values [] values = values
-with_values (value ∷ more) values = with_values more (insert values value.0 value.1)
+with_values [] map = map
+with_values (entry ∷ more) map = with_values more (insert map entry.0 entry.1)
 
 -- a value with the name of its column
 abbrev pub named_value : List ℕ → Result Datum OpError → Result (List ℕ × Datum) OpError

@@ -36,7 +36,8 @@ uuid_fault (Some d) = if is_some (id_read d) then None else Some SyntaxError
 abbrev pub name_text_fault : OpContext → ℕ → Option (List ℕ) → Option OpError
 name_text_fault c place None = Some SyntaxError
 name_text_fault c place (Some name) =
-    if not (is_id name) then Some SyntaxError else (if is_declared_before name place c.operations then Some DuplicateName else None)
+    if not (is_id name) then Some SyntaxError
+    else (if is_declared_before name place c.operations then Some DuplicateName else None)
 
 -- what is wrong with "uuid-name", which may be left out (RFC 7047, 5.2.1)
 abbrev pub name_fault : OpContext → ℕ → Option Data → Option OpError
@@ -47,7 +48,8 @@ name_fault c place (Some d) = name_text_fault c place (as_str d)
 
 -- the default of a column, if it fits (RFC 7047, 5.2.1; that a default may not fit is this server's)
 abbrev pub fitting_default : Column → Result Datum OpError
-fitting_default column = if fits column.type_of (default_of column.type_of) then Ok (default_of column.type_of) else Err ConstraintViolation
+fitting_default column =
+    if fits column.type_of (default_of column.type_of) then Ok (default_of column.type_of) else Err ConstraintViolation
 
 -- the columns that a new row has and that are not given (RFC 7047, 5.2.1)
 abbrev pub not_given : Table → Columns → List (List ℕ × Column)
@@ -87,4 +89,5 @@ insert_outcome c place rows d = on_table c d (λ name table.
     unless_fault (uuid_fault (find.get (codes "uuid") d)) (
     unless_fault (name_fault c place (find.get (codes "uuid-name") d)) (
     some_or_fault (object_at (codes "row") d) SyntaxError (λ members.
-    ok_or_fault (new_row (names_in c) table members) (λ columns. put_new c rows name columns (has_member (codes "uuid") d) (id_at c.ids c.operations place))))))
+    ok_or_fault (new_row (names_in c) table members)
+    (λ columns. put_new c rows name columns (has_member (codes "uuid") d) (id_at c.ids c.operations place))))))

@@ -41,7 +41,8 @@ mutated_value m datum = result_map_err mutate_error (mutated m.type_of m.change 
 abbrev pub entry_mutated : Mutation → List ℕ × Datum → Result (List ℕ × Datum) OpError
 entry_mutated m c = if bytes_eq c.0 m.column then named_value c.0 (mutated_value m c.1) else Ok c
 
--- What a mutation makes of the columns of a row: its own column is mutated, and the others stay (RFC 7047, 5.2.4).
+-- What a mutation makes of the columns of a row: its own column is mutated, and the others stay, so the row with the mutated
+-- value put (RFC 7047, 5.2.4; `a_mutation_changes_its_column_alone`)
 abbrev pub column_mutated : Mutation → Columns → Result Columns OpError
 column_mutated m columns = result_map from_entries (each_or_fault (entry_mutated m) (entries columns))
 
@@ -49,7 +50,8 @@ column_mutated m columns = result_map from_entries (each_or_fault (entry_mutated
 -- 5.2.4)
 abbrev pub mutated_columns : List Mutation → Columns → Result Columns OpError
 mutated_columns [] columns = Ok columns
-mutated_columns (m ∷ mutations) columns = result_and_then (λ changed. mutated_columns mutations changed) (column_mutated m columns)
+mutated_columns (m ∷ mutations) columns =
+    result_and_then (λ changed. mutated_columns mutations changed) (column_mutated m columns)
 
 -- a row after the mutations
 abbrev pub mutated_row : List Mutation → LineKey × Row → Result (LineKey × Columns) OpError
@@ -61,11 +63,13 @@ mutated_rows mutations found = each_or_fault (mutated_row mutations) found
 
 -- applies the mutations to these rows (RFC 7047, 5.2.4)
 abbrev pub mutates : OpContext → List Mutation → List (LineKey × Row) → Database → OpOutcome
-mutates c mutations found rows = ok_or_fault (mutated_rows mutations found) (λ changed. Done (count_result (length found)) (put_rows c changed rows))
+mutates c mutations found rows =
+    ok_or_fault (mutated_rows mutations found) (λ changed. Done (count_result (length found)) (put_rows c changed rows))
 
 -- Its members are checked in this order: "table", "where", "mutations"; and then the rows, in ascending order of their
 -- identifiers (RFC 7047, 5.2.4; the order is this server's).
 abbrev pub mutate_outcome : OpContext → Database → Data → OpOutcome
 mutate_outcome c rows d = on_table c d (λ name table. on_conditions c table d (λ conditions.
     some_or_fault (array_at (codes "mutations") d) SyntaxError (λ items.
-    ok_or_fault (mutations_read (names_in c) table items) (λ mutations. mutates c mutations (matching rows name conditions) rows))))
+    ok_or_fault (mutations_read (names_in c) table items)
+    (λ mutations. mutates c mutations (matching rows name conditions) rows))))

@@ -125,7 +125,8 @@ with_mutator names t m (Some mutator) = with_change m.column t (change_read name
 -- the mutation of this column, which is mutable (RFC 7047, 5.1, <mutation>)
 abbrev pub mutation_on : Names → Triple → Option Column → Result Mutation MutationFault
 mutation_on names m None = Err NoColumn
-mutation_on names m (Some column) = if column.is_mutable then with_mutator names column.type_of m (mutator_on column.type_of m.word) else Err NotMutable
+mutation_on names m (Some column) =
+    if column.is_mutable then with_mutator names column.type_of m (mutator_on column.type_of m.word) else Err NotMutable
 
 -- the mutation of a column of the table (RFC 7047, 5.1, <mutation>)
 abbrev pub mutation_of : Names → Table → Option Triple → Result Mutation MutationFault
@@ -198,7 +199,8 @@ of_results t results =
 -- each number of a set is computed; in an empty set nothing is divided (RFC 7047, 5.1, <mutator>)
 abbrev pub all_computed : ColumnType → Operator → ℤ → List Atom → Result Datum MutateError
 all_computed t operator by atoms =
-    if divides_by_zero operator by && not (is_empty atoms) then Err Domain else of_results t (map (computed_atom operator by) atoms)
+    if divides_by_zero operator by && not (is_empty atoms) then Err Domain
+    else of_results t (map (computed_atom operator by) atoms)
 
 -- the union; a key that a map has keeps its value (RFC 7047, 5.1, <mutator>)
 abbrev pub inserted : Datum → Datum → Datum

@@ -56,4 +56,6 @@ unless_fault (Some error) outcome = Fault error
 
 -- The table that the operation names: "table" is a text (else a syntax error), and a table of the schema (RFC 7047, 5.2).
 abbrev pub on_table : OpContext → Data → (List ℕ → Table → OpOutcome) → OpOutcome
-on_table c d next = some_or_fault (text_at (codes "table") d) SyntaxError (λ name. some_or_fault (get c.schema.tables name) UnknownTable (λ table. next name table))
+on_table c d next =
+    some_or_fault (text_at (codes "table") d) SyntaxError
+    (λ name. some_or_fault (get c.schema.tables name) UnknownTable (λ table. next name table))

@@ -44,7 +44,8 @@ columns_named table names = filter (λ name. list_any (bytes_eq name) names) (ke
 
 -- Each name is that of a column of the table; a name may occur twice (RFC 7047, 5.2.2).
 abbrev pub known_columns : Table → List (List ℕ) → Result (List (List ℕ)) OpError
-known_columns table names = if list_all (contains_key table.columns) names then Ok (columns_named table names) else Err UnknownColumn
+known_columns table names =
+    if list_all (contains_key table.columns) names then Ok (columns_named table names) else Err UnknownColumn
 
 -- the names of "columns", which is an array of texts (RFC 7047, 5.2.2)
 abbrev pub listed_columns : Table → Option (List (List ℕ)) → Result (List (List ℕ)) OpError

@@ -46,7 +46,8 @@ ended before (Err error) = Completes (item (error_tree error) no_items) before
 -- the operations from this place on, in order, and then the commit (RFC 7047, 4.1.3)
 abbrev pub performed : OpContext → ℕ → Items → Database → TransactionOutcome
 performed c place no_items rows = ended c.before (committed c.schema c.before c.version rows)
-performed c place (item d operations) rows = after c.before (outcome_of c place rows d) operations (performed c (place + 1) operations)
+performed c place (item d operations) rows =
+    after c.before (outcome_of c place rows d) operations (performed c (place + 1) operations)
 
 -- The context of a transaction's operations. The first draw is the version of the rows that it changes, the others are for its
 -- inserts, one each (RFC 7047, 4.1.3 and 5.2.1).
@@ -63,7 +64,8 @@ op_context schema before owns draws age operations = record {
 
 -- a transaction of this age on the database, of a session that owns these locks, with these draws (RFC 7047, 4.1.3)
 abbrev pub transaction : Schema → Database → Owns → List Uuid → ℕ → Items → TransactionOutcome
-transaction schema before owns draws age operations = performed (op_context schema before owns draws age operations) 0 operations before
+transaction schema before owns draws age operations =
+    performed (op_context schema before owns draws age operations) 0 operations before
 
 -- one of the results has an error (RFC 7047, 4.1.3)
 abbrev pub has_error : Items → Bool

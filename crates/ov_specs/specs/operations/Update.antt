@@ -21,4 +21,5 @@ updated c given found rows = Done (count_result (length found)) (put_rows c (map
 abbrev pub update_outcome : OpContext → Database → Data → OpOutcome
 update_outcome c rows d = on_table c d (λ name table. on_conditions c table d (λ conditions.
     some_or_fault (object_at (codes "row") d) SyntaxError (λ members.
-    ok_or_fault (given_values may_be_changed (names_in c) table members) (λ given. updated c given (matching rows name conditions) rows))))
+    ok_or_fault (given_values may_be_changed (names_in c) table members)
+    (λ given. updated c given (matching rows name conditions) rows))))

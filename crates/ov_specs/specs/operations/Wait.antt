@@ -52,7 +52,8 @@ pub data Until : Type 0 where
 
 -- "==" or "!=" (RFC 7047, 5.2.6)
 abbrev pub until_of : List ℕ → Option Until
-until_of word = if bytes_eq word (codes "==") then Some AreEqual else (if bytes_eq word (codes "!=") then Some AreNotEqual else None)
+until_of word =
+    if bytes_eq word (codes "==") then Some AreEqual else (if bytes_eq word (codes "!=") then Some AreNotEqual else None)
 
 -- ---- the given rows
 
@@ -75,11 +76,13 @@ told_values names table compared members =
 
 -- the value given for a column, or else its default: that of `_uuid` and of `_version` is the zero UUID (RFC 7047, 5.2.1)
 abbrev pub told_or_default : Table → Columns → List ℕ → Option Datum
-told_or_default table told name = option_map (λ column. unwrap_or (get told name) (default_of column.type_of)) (get table.columns name)
+told_or_default table told name =
+    option_map (λ column. unwrap_or (get told name) (default_of column.type_of)) (get table.columns name)
 
 -- a given row, as a row of the table is seen: the compared columns with their names
 abbrev pub told_projection : Table → List (List ℕ) → Columns → List (List ℕ × Datum)
-told_projection table compared told = flat_map (λ name. option_to_list (option_map (λ datum. (name, datum)) (told_or_default table told name))) compared
+told_projection table compared told =
+    flat_map (λ name. option_to_list (option_map (λ datum. (name, datum)) (told_or_default table told name))) compared
 
 -- the values of a given row, which is an object (RFC 7047, 5.1, <row>)
 abbrev pub told_row : Names → Table → List (List ℕ) → Data → Result Columns OpError

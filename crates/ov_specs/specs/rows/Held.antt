@@ -53,7 +53,8 @@ is_stored_as columns (OfCells cells) = pointwise same_cell (entries (cells_of co
 
 -- the row of this version and these columns, if they are stored as exactly this
 abbrev pub row_if_stored : Uuid → Body → Columns → Option Row
-row_if_stored version body columns = if is_stored_as columns body then Some (record { version = version; columns = columns }) else None
+row_if_stored version body columns =
+    if is_stored_as columns body then Some (record { version = version; columns = columns }) else None
 
 -- the columns of a row of the table with the values that are stored for them, if each has one; more may be stored
 abbrev pub columns_stored : Body → Table → Option Columns

@@ -16,6 +16,10 @@ without_own = filter (λ name. not (is_own_column name))
 abbrev pub row_names : Table → List (List ℕ)
 row_names table = without_own (keys table.columns)
 
+-- these columns but `_uuid` and `_version`, with their names
+abbrev pub without_own_columns : List (List ℕ × Column) → List (List ℕ × Column)
+without_own_columns = filter (λ c. not (is_own_column c.0))
+
 -- the table's columns but `_uuid` and `_version`, with their names, ascending
 abbrev pub row_columns : Table → List (List ℕ × Column)
-row_columns table = filter (λ c. not (is_own_column c.0)) (entries table.columns)
+row_columns table = without_own_columns (entries table.columns)

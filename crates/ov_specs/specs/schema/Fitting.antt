@@ -37,7 +37,9 @@ value_fits type_of a = is_none_or (λ b. atom_fits b a) type_of
 -- the count lies between `min` and `max`, and each atom fits (RFC 7047, 3.2, <type>)
 abbrev pub fits : ColumnType → Datum → Bool
 fits t (Atoms atoms) = is_between (Some t.min) t.max (pos (len atoms)) && list_all (atom_fits t.key) (keys atoms)
-fits t (Pairs pairs) = is_between (Some t.min) t.max (pos (len pairs)) && list_all (λ p. atom_fits t.key p.0 && value_fits t.value p.1) (entries pairs)
+fits t (Pairs pairs) =
+    is_between (Some t.min) t.max (pos (len pairs))
+    && list_all (λ p. atom_fits t.key p.0 && value_fits t.value p.1) (entries pairs)
 
 -- nothing if the count may be 0, else one default atom or pair (RFC 7047, 5.2.1)
 abbrev pub default_of : ColumnType → Datum

@@ -29,7 +29,9 @@ same_ranges a b =
 
 -- RFC 7047, 3.2, <base-type>
 abbrev pub same_base : BaseType → BaseType → Bool
-same_base a b = same_kind a.kind b.kind && option_eq same_choices a.choices b.choices && same_ranges a b && option_eq same_reference a.refers b.refers
+same_base a b =
+    same_kind a.kind b.kind && option_eq same_choices a.choices b.choices && same_ranges a b
+    && option_eq same_reference a.refers b.refers
 
 -- the same type for keys and for values, and the same counts (RFC 7047, 3.2, <type>)
 abbrev pub same_type : ColumnType → ColumnType → Bool

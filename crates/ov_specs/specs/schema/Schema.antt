@@ -108,7 +108,8 @@ below n o = is_some_and (λ z. int_lt z n) o
 
 -- a least above its greatest, or a negative length (RFC 7047, 3.2, <base-type>)
 abbrev pub is_bad_base_range : BaseShape → Bool
-is_bad_base_range b = above b.least b.greatest || below (pos 0) b.shortest || below (pos 0) b.longest || above b.shortest b.longest
+is_bad_base_range b =
+    above b.least b.greatest || below (pos 0) b.shortest || below (pos 0) b.longest || above b.shortest b.longest
 
 -- a `max` below 1 (RFC 7047, 3.2, <type>)
 abbrev pub is_bad_most : Most → Bool
@@ -189,7 +190,8 @@ has_twice (name ∷ names) = list_any (λ other. bytes_eq other name) names || h
 -- an empty index, or one with a name of no column, of an ephemeral column, or a name twice (RFC 7047, 3.2, <table-schema>,
 -- indexes)
 abbrev pub is_bad_index : TableShape → List (List ℕ) → Bool
-is_bad_index t index = is_empty index || list_any (λ name. not (is_lasting (column_named t.columns name))) index || has_twice index
+is_bad_index t index =
+    is_empty index || list_any (λ name. not (is_lasting (column_named t.columns name))) index || has_twice index
 
 -- a bad index of some table (RFC 7047, 3.2, <table-schema>)
 abbrev pub has_bad_index : SchemaShape → Bool
@@ -249,7 +251,15 @@ reference_of b = option_map (λ table. record { table = table; is_strong = is_st
 
 -- RFC 7047, 3.2, <base-type>
 abbrev pub accepted_base : BaseShape → BaseType
-accepted_base b = record { kind = kind_named b.of; choices = choices_of b.of b.choices; least = b.least; greatest = b.greatest; shortest = b.shortest; longest = b.longest; refers = reference_of b }
+accepted_base b = record {
+  kind = kind_named b.of;
+  choices = choices_of b.of b.choices;
+  least = b.least;
+  greatest = b.greatest;
+  shortest = b.shortest;
+  longest = b.longest;
+  refers = reference_of b;
+}
 
 -- 1 if `max` is absent, None if it is "unlimited" (RFC 7047, 3.2, <type>)
 abbrev pub max_of : Option Most → Option ℤ
@@ -259,15 +269,29 @@ max_of (Some Unlimited) = None
 
 -- `min` is 1 if it is absent (RFC 7047, 3.2, <type>)
 abbrev pub accepted_type : TypeShape → ColumnType
-accepted_type t = record { key = accepted_base t.key; value = option_map accepted_base t.value; min = unwrap_or t.min (pos 1); max = max_of t.max }
+accepted_type t = record {
+  key = accepted_base t.key;
+  value = option_map accepted_base t.value;
+  min = unwrap_or t.min (pos 1);
+  max = max_of t.max;
+}
 
 -- a column that holds weak references is mutable, whatever its schema says
 abbrev pub accepted_column : ColumnShape → Column
-accepted_column c = record { type_of = accepted_type c.type_of; is_ephemeral = c.is_ephemeral; is_mutable = c.is_mutable || is_weak c.type_of.key || is_some_and is_weak c.type_of.value }
+accepted_column c = record {
+  type_of = accepted_type c.type_of;
+  is_ephemeral = c.is_ephemeral;
+  is_mutable = c.is_mutable || is_weak c.type_of.key || is_some_and is_weak c.type_of.value;
+}
 
 -- `_uuid` and `_version`: scalars of type "uuid" without references (RFC 7047, 3.2)
 abbrev pub own_column : Column
-own_column = accepted_column (record { type_of = record { key = plain_base (Kind Uuids); value = None; min = None; max = None }; is_ephemeral = false; is_mutable = false })
+own_column =
+    accepted_column (record {
+      type_of = record { key = plain_base (Kind Uuids); value = None; min = None; max = None };
+      is_ephemeral = false;
+      is_mutable = false;
+    })
 
 -- the columns that each table has (RFC 7047, 3.2)
 abbrev pub own_columns : List (List ℕ × Column)
@@ -286,7 +310,12 @@ accepted_table some_root t = record {
 abbrev pub accepted_schema : Data → SchemaShape → Schema
 accepted_schema d s =
     let some_root = any_table (λ name t. t.is_root) s in
-    record { name = s.name; version = s.version; tables = from_entries (map (λ t. (t.0, accepted_table some_root t.1)) s.tables); tree = d }
+    record {
+      name = s.name;
+      version = s.version;
+      tables = from_entries (map (λ t. (t.0, accepted_table some_root t.1)) s.tables);
+      tree = d;
+    }
 
 -- the schema, unless it is refused
 abbrev pub refused_or : Schema → Option SchemaRefusal → Result Schema SchemaRefusal

@@ -101,7 +101,16 @@ is_text_type name = false
 
 -- a base type that is only a name (RFC 7047, 3.2, <base-type>)
 abbrev pub plain_base : TypeName → BaseShape
-plain_base name = record { of = name; choices = None; least = None; greatest = None; shortest = None; longest = None; ref_table = None; ref_type = None }
+plain_base name = record {
+  of = name;
+  choices = None;
+  least = None;
+  greatest = None;
+  shortest = None;
+  longest = None;
+  ref_table = None;
+  ref_type = None;
+}
 
 -- a range stands only beside its own type (RFC 7047, 3.2, <base-type>)
 abbrev pub ranges_fit : BaseShape → Bool
@@ -123,7 +132,16 @@ base_members d =
     where_read (optional whole_number (get (codes "maxLength") d)) (λ longest.
     where_read (optional as_str (get (codes "refTable") d)) (λ table.
     where_read (optional as_str (get (codes "refType") d)) (λ strength.
-    where_ranges_fit (record { of = name; choices = get (codes "enum") d; least = least; greatest = greatest; shortest = shortest; longest = longest; ref_table = table; ref_type = strength }))))))))
+    where_ranges_fit (record {
+      of = name;
+      choices = get (codes "enum") d;
+      least = least;
+      greatest = greatest;
+      shortest = shortest;
+      longest = longest;
+      ref_table = table;
+      ref_type = strength;
+    }))))))))
 
 -- an atomic type's name, or an object (RFC 7047, 3.2)
 abbrev pub named_or : {A : Type 0} → (BaseShape → A) → (Data → Option A) → Data → Option (List ℕ) → Option A

@@ -28,9 +28,11 @@ AllSpace gap = All (λ x. is_space x ≡ true) gap
 -- What follows the last message, after `at` bytes, if a message has at most `most` bytes: white space and then nothing or a
 -- message that has begun; white space and then a stray byte; white space and then a message that is too long.
 abbrev pub Ends : ℕ → ℕ → List ℕ → List ℕ → Option Damage → Type 0
-Ends most at tail rest None = (gap : List ℕ) × (tail ≡ gap ++ rest) × AllSpace gap × ((rest ≡ []) ⊎ (IsBegun rest × (length rest ≤ most)))
+Ends most at tail rest None =
+    (gap : List ℕ) × (tail ≡ gap ++ rest) × AllSpace gap × ((rest ≡ []) ⊎ (IsBegun rest × (length rest ≤ most)))
 Ends most at tail rest (Some (Stray offset)) =
-    (gap following : List ℕ) × (x : ℕ) × (tail ≡ gap ++ x ∷ following) × AllSpace gap × (is_space x ≡ false) × (x ≢ 123) × (offset ≡ at + length gap) × (rest ≡ [])
+    (gap following : List ℕ) × (x : ℕ) × (tail ≡ gap ++ x ∷ following) × AllSpace gap × (is_space x ≡ false) × (x ≢ 123)
+    × (offset ≡ at + length gap) × (rest ≡ [])
 Ends most at tail rest (Some TooLong) =
     (gap text : List ℕ) × (tail ≡ gap ++ text) × AllSpace gap × (most < length text) × IsBegun (take most text) × (rest ≡ [])
 
@@ -38,7 +40,8 @@ Ends most at tail rest (Some TooLong) =
 abbrev pub IsCutAt : ℕ → ℕ → List ℕ → List (List ℕ) → List ℕ → Option Damage → Type 0
 IsCutAt most at stream [] rest damage = Ends most at stream rest damage
 IsCutAt most at stream (message ∷ messages) rest damage =
-    (gap following : List ℕ) × (stream ≡ gap ++ (message ++ following)) × AllSpace gap × IsMessage message × (length message ≤ most)
+    (gap following : List ℕ) × (stream ≡ gap ++ (message ++ following)) × AllSpace gap × IsMessage message
+    × (length message ≤ most)
     × IsCutAt most (at + (length gap + length message)) following messages rest damage
 
 -- the cut of the whole stream
@@ -56,11 +59,14 @@ pub data AfterByte : Type 0 where
 
 -- a byte between two messages
 abbrev pub after_byte_between : ℕ → ℕ → AfterByte
-after_byte_between at x = if is_space x then BetweenMessages else (if x == 123 then InsideMessage (123 ∷ []) else FoundDamage (Stray at))
+after_byte_between at x =
+    if is_space x then BetweenMessages else (if x == 123 then InsideMessage (123 ∷ []) else FoundDamage (Stray at))
 
 -- the text of a message so far, including the new byte
 abbrev pub after_byte_inside : ℕ → List ℕ → AfterByte
-after_byte_inside most text = if nat_lt most (length text) then FoundDamage TooLong else (if is_balanced text then WholeMessage text else InsideMessage text)
+after_byte_inside most text =
+    if nat_lt most (length text) then FoundDamage TooLong
+    else (if is_balanced text then WholeMessage text else InsideMessage text)
 
 -- one more byte, after `at` bytes and a message that has begun, or none
 abbrev pub after_byte : ℕ → ℕ → List ℕ → ℕ → AfterByte

@@ -59,7 +59,8 @@ request None params asker = bad asker NotARequest
 
 -- the request that a tree is, by its three members (JSON-RPC 1.0, 1.1 and 1.3)
 abbrev pub request_in : Data → Message
-request_in d = request (option_and_then as_str (get (codes "method") d)) (option_and_then as_array (get (codes "params") d)) (asker_of d)
+request_in d =
+    request (option_and_then as_str (get (codes "method") d)) (option_and_then as_array (get (codes "params") d)) (asker_of d)
 
 -- The message that a tree is, or None if it is unreadable; the first case that applies decides (this server's rule, over
 -- JSON-RPC 1.0, 1).

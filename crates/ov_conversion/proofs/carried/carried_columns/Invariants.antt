@@ -1,10 +1,10 @@
-use Rattle.std.proofs.Common.{◌≡◌, drop, map, filter, not}
+use Rattle.std.proofs.Common.{◌≡◌, drop, map}
 use Rattle.ov_specs.specs.operations.GivenRow.{with_values}
 use Rattle.ov_specs.specs.conversion.Carried.{carried_value}
-use Rattle.ov_specs.specs.rows.RowNames.{is_own_column}
+use Rattle.ov_specs.specs.rows.RowNames.{without_own_columns}
 use Rattle.ov_conversion.proofs.carried.carried_columns.Given as goal
 
 abbrev pub invariant-loop-name : goal.invariant-loop-name
 invariant-loop-name l =
-    with_values (map (λ c. (c.0, carried_value l.old l.columns c)) (filter (λ c. not (is_own_column c.0)) l.name-items)) l.initial.named
-    ≡ with_values (map (λ c. (c.0, carried_value l.old l.columns c)) (filter (λ c. not (is_own_column c.0)) (drop l.name-index l.name-items))) l.named
+    with_values (map (λ c. (c.0, carried_value l.old l.columns c)) (without_own_columns l.name-items)) l.initial.named
+    ≡ with_values (map (λ c. (c.0, carried_value l.old l.columns c)) (without_own_columns (drop l.name-index l.name-items))) l.named
