@@ -7,14 +7,14 @@ use Rattle.ov_store.specs.Finding.{new_contents}
 use Rattle.ov_words.specs.declared.ending.Ending.{Ending}
 use Rattle.ov_words.specs.Causes.{by_open}
 use Rattle.ov_pipes.specs.Pipes.{PipesState}
-use Rattle.ov_listen.specs.declared.place.Ended.{Ended}
+use Rattle.ov_listen.specs.declared.endpoint.Ended.{Ended}
 use Rattle.ov_listen.specs.declared.file.FileEnded.{FileEnded}
-use Rattle.ov_listen.specs.declared.place.Offer.{Offer}
+use Rattle.ov_listen.specs.declared.endpoint.Offer.{Offer}
 use Rattle.ov_listen.specs.declared.database.Service.{Service}
 use Rattle.ov_listen.specs.declared.database.DatabaseEnded.{DatabaseEnded}
 use Rattle.ov_listen.specs.declared.database.DatabaseEnded.TheVariants.{Memory, File}
 use Rattle.ov_listen.specs.Environment.{Environment}
-use Rattle.ov_listen.specs.Places.{ServesPlace, RefusesPlace}
+use Rattle.ov_listen.specs.Offers.{ServesOffer, RefusesOffer}
 
 -- it holds just this text of a schema and no row, in format 2, and its device has not failed
 pub record IsNewKeeper {K : Type 0} (k : Ghosts K) (text : List ℕ) (keeper : K) : Type 0 where
@@ -23,13 +23,13 @@ pub record IsNewKeeper {K : Type 0} (k : Ghosts K) (text : List ℕ) (keeper : K
 
 -- what a service offers of the database that a keeper holds: all but the text
 abbrev pub offer_of : {D : Type 0} → Service D → Offer D
-offer_of service = record { schema = service.schema; draws = service.draws; place = service.place }
+offer_of service = record { schema = service.schema; draws = service.draws; endpoint = service.endpoint }
 
 module _ {K D C : Type 0} (e : Environment K D C) where
   -- A core was opened over a new keeper and served its sessions; or none was opened, and nothing is read or written.
   abbrev pub EndsMemory : Service D → PipesState C → Result (Ended K D) (RefusedOpen K) → PipesState C → Type 0
-  EndsMemory service from (Ok ended) to = (keeper : K) × IsNewKeeper e.keeper service.text keeper × ServesPlace e keeper (offer_of service) from ended to
-  EndsMemory service from (Err refused) to = (keeper : K) × IsNewKeeper e.keeper service.text keeper × RefusesPlace e keeper (offer_of service) refused × (to ≡ from)
+  EndsMemory service from (Ok ended) to = (keeper : K) × IsNewKeeper e.keeper service.text keeper × ServesOffer e keeper (offer_of service) from ended to
+  EndsMemory service from (Err refused) to = (keeper : K) × IsNewKeeper e.keeper service.text keeper × RefusesOffer e keeper (offer_of service) refused × (to ≡ from)
 
 -- what contracts see of a keeper in memory: the text of its schema, and its rows
 abbrev pub MemoryState : Type 0

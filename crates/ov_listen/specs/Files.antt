@@ -15,13 +15,13 @@ use Rattle.ov_store.specs.Whole.{WasWhole}
 use Rattle.ov_words.specs.declared.ending.Ending.{Ending}
 use Rattle.ov_words.specs.Causes.{by_keeping, by_open}
 use Rattle.ov_pipes.specs.Pipes.{PipesState}
-use Rattle.ov_listen.specs.declared.place.Ended.{Ended}
-use Rattle.ov_listen.specs.declared.place.Offer.{Offer}
+use Rattle.ov_listen.specs.declared.endpoint.Ended.{Ended}
+use Rattle.ov_listen.specs.declared.endpoint.Offer.{Offer}
 use Rattle.ov_listen.specs.declared.database.Service.{Service}
 use Rattle.ov_listen.specs.declared.file.FileEnded.{FileEnded}
 use Rattle.ov_listen.specs.Endings.{closes_file}
 use Rattle.ov_listen.specs.Environment.{Environment}
-use Rattle.ov_listen.specs.Places.{ServesPlace, RefusesPlace}
+use Rattle.ov_listen.specs.Offers.{ServesOffer, RefusesOffer}
 use Rattle.ov_listen.specs.Databases.{offer_of}
 
 -- how the sessions of a store ended: with the core that served them, or without a core
@@ -37,8 +37,8 @@ module _ {K D C : Type 0} (e : Environment K D C) where
   -- A store that was opened came to that with its core; or no core was opened over it, or there was no store, the ending is
   -- that of the fault, and nothing is read or written.
   abbrev pub EndsStore : Result K KeepFault → Offer D → PipesState C → StoreEnded K D → PipesState C → Type 0
-  EndsStore (Ok keeper) offer from (Ok ended) to = ServesPlace e keeper offer from ended to
-  EndsStore (Ok keeper) offer from (Err told) to = (to ≡ from) × ((refused : RefusedOpen K) × (told ≡ by_open refused.fault) × RefusesPlace e keeper offer refused)
+  EndsStore (Ok keeper) offer from (Ok ended) to = ServesOffer e keeper offer from ended to
+  EndsStore (Ok keeper) offer from (Err told) to = (to ≡ from) × ((refused : RefusedOpen K) × (told ≡ by_open refused.fault) × RefusesOffer e keeper offer refused)
   EndsStore (Err fault) offer from (Ok ended) to = ⊥
   EndsStore (Err fault) offer from (Err told) to = (to ≡ from) × (told ≡ by_keeping fault)
 

@@ -1,6 +1,6 @@
 pub mod Endings
 pub mod Connections
 pub mod Environment
-pub mod Places
+pub mod Offers
 pub mod Files
 pub mod Databases

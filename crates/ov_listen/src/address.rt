@@ -3,8 +3,8 @@ ghost use Rattle.ov_listen.specs.Connections.{EndsAddress};
 
 use crate::connections::serve_so_many;
 use crate::endings::ending_of_listening;
+use crate::endpoint::Ended;
 use crate::everyone::serve_everyone;
-use crate::place::Ended;
 use crate::system::System;
 use ov_core::Core;
 use ov_ends::Clock;

@@ -3,7 +3,7 @@ ghost use Rattle.ov_core.specs.Following.{with_clock};
 ghost use Rattle.ov_listen.specs.Connections.{EndsSoMany, RefusesConnections, ServesConnections};
 
 use crate::endings::{ending_of_listening, ending_of_serving};
-use crate::place::Ended;
+use crate::endpoint::Ended;
 use ov_core::Core;
 use ov_desk::{Served, Unserved, serve_links};
 use ov_ends::Clock;

@@ -7,8 +7,8 @@ ghost use Rattle.ov_listen.specs.Databases.{EndsMemory, IsInFile, IsInMemory, en
 ghost use Rattle.ov_listen.specs.Files.{EndsFile};
 ghost use Rattle.ov_listen.specs.Environment.{environment_of};
 
+use crate::endpoint::{Ended, Endpoint, Offer, serve_offer};
 use crate::file::{FileEnded, serve_file};
-use crate::place::{Ended, Offer, Place, serve_place};
 use crate::system::System;
 use ov_base::Text;
 use ov_core::Schema;
@@ -32,7 +32,7 @@ pub struct Service<D> {
     /// Where new identifiers come from.
     pub draws: D,
     /// Where sessions are served.
-    pub place: Place,
+    pub endpoint: Endpoint,
 }
 
 /// How the sessions of a database in memory ended, or why it was not opened.
@@ -60,7 +60,7 @@ impl<D: Draws> DatabaseEnded<D> {
     }
 }
 
-/// Serves sessions of a new database in memory, as `serve_place` does. There is no device below it, so what is promised of an
+/// Serves sessions of a new database in memory, as `serve_offer` does. There is no device below it, so what is promised of an
 /// honest device needs no premise here.
 pub fn serve_memory<R, D, S, W, C>(
     rt: &R,
@@ -82,16 +82,16 @@ where
         schema,
         text,
         draws,
-        place,
+        endpoint,
     } = service;
-    serve_place(
+    serve_offer(
         rt,
         alloc,
         VolatileKeeper::new(text),
         Offer {
             schema,
             draws,
-            place,
+            endpoint,
         },
         pipes,
     )

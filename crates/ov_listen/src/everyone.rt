@@ -2,7 +2,7 @@ ghost use Rattle.ov_core.specs.Following.{with_clock};
 ghost use Rattle.ov_listen.specs.Connections.{EndsEveryone};
 
 use crate::endings::ending_of_serving;
-use crate::place::Ended;
+use crate::endpoint::Ended;
 use ov_core::Core;
 use ov_desk::{RefusedLobby, serve_lobby};
 use ov_ends::Clock;

@@ -6,7 +6,7 @@ ghost use Rattle.ov_listen.specs.Environment.{environment_of};
 
 use crate::database::Service;
 use crate::endings::closes_file;
-use crate::place::{Ended, Offer, serve_place};
+use crate::endpoint::{Ended, Offer, serve_offer};
 use crate::system::System;
 use ov_ends::{Clock, Sink, Source};
 use ov_keeper::{KeepFault, Keeper};
@@ -48,13 +48,13 @@ where
         Ok(keeper) => keeper,
         Err(fault) => return Err(ending_of_keeping(fault)),
     };
-    match serve_place(rt, alloc, keeper, offer, pipes) {
+    match serve_offer(rt, alloc, keeper, offer, pipes) {
         Ok(ended) => Ok(ended),
         Err(refused) => Err(ending_of_open(refused.fault)),
     }
 }
 
-/// Serves sessions of the database in the file at a path, as `serve_place` does. `start` stands for what the file and its log
+/// Serves sessions of the database in the file at a path, as `serve_offer` does. `start` stands for what the file and its log
 /// held. If the sessions ended by their input or by their streams, or no client was served for a cause other than memory, the
 /// file is then closed: it holds the whole database, with no log beside it, unless the system refuses that. If the closing
 /// fails, nothing is lost: the file and its log belong together, as after a kill. If the file is refused, nothing is read or
@@ -84,13 +84,13 @@ where
         schema,
         text,
         draws,
-        place,
+        endpoint,
     } = service;
     let store = store_in_file(host, path, text, start);
     let offer = Offer {
         schema,
         draws,
-        place,
+        endpoint,
     };
     let Ended { ending, core } = match serve_store(rt, host.alloc(), store, offer, pipes) {
         Ok(ended) => ended,

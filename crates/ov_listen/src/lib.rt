@@ -6,15 +6,15 @@ mod address;
 mod connections;
 mod database;
 mod endings;
+mod endpoint;
 mod everyone;
 mod file;
-mod place;
 mod system;
 
 pub use address::serve_at;
 pub use connections::serve_connections;
 pub use database::{DatabaseEnded, Service, serve_database, serve_memory};
 pub use endings::{closes_file, ending_of_listening, ending_of_serving};
+pub use endpoint::{Ended, Endpoint, Offer, serve_offer};
 pub use file::{FileEnded, serve_file};
-pub use place::{Ended, Offer, Place, serve_place};
 pub use system::System;

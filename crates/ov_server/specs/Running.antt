@@ -8,8 +8,8 @@ use Rattle.ov_store.specs.StoreState.{StoreState}
 use Rattle.ov_words.specs.declared.settings.Settings.{Settings}
 use Rattle.ov_words.specs.Words.{settings_of}
 use Rattle.ov_pipes.specs.Pipes.{PipesState}
-use Rattle.ov_listen.specs.declared.place.Place.{Place}
-use Rattle.ov_listen.specs.declared.place.Place.TheVariants.{Pipes, Address}
+use Rattle.ov_listen.specs.declared.endpoint.Endpoint.{Endpoint}
+use Rattle.ov_listen.specs.declared.endpoint.Endpoint.TheVariants.{Pipes, Address}
 use Rattle.ov_listen.specs.declared.database.Service.{Service}
 use Rattle.ov_listen.specs.declared.database.DatabaseEnded.{DatabaseEnded}
 use Rattle.ov_listen.specs.Databases.{EndsMemory, IsInFile, IsInMemory, MemoryState}
@@ -18,15 +18,15 @@ use Rattle.ov_listen.specs.Environment.{Environment}
 use Rattle.ov_server.specs.Schemas.{IsBuiltIn}
 
 -- where sessions are served: at the address, if one is named
-abbrev pub place_of : Option (List ℕ) → Option ℕ → Place
-place_of None sessions = Pipes
-place_of (Some address) sessions = Address address sessions
+abbrev pub endpoint_of : Option (List ℕ) → Option ℕ → Endpoint
+endpoint_of None sessions = Pipes
+endpoint_of (Some address) sessions = Address address sessions
 
--- the schema is the built-in one if no file is named, the text is the schema's, and the place is this one
-pub record IsServiceAsked {D : Type 0} (file : Option (List ℕ)) (at : Place) (service : Service D) : Type 0 where
+-- the schema is the built-in one if no file is named, the text is the schema's, and the endpoint is this one
+pub record IsServiceAsked {D : Type 0} (file : Option (List ℕ)) (at : Endpoint) (service : Service D) : Type 0 where
   pub schema : IfNone file (IsBuiltIn service.schema)
   pub text : service.text ≡ compact_text service.schema.tree
-  pub place : service.place ≡ at
+  pub endpoint : service.endpoint ≡ at
 
 -- what the program is started with: its arguments, what the database's file and its log hold, and its pipes
 pub record Invocation (C : Type 0) : Type 0 where
@@ -42,6 +42,6 @@ pub record RunsDatabase {A D C : Type 0} {g : disk.Ghosts A} (memory : Environme
   pub settings : Settings
   pub given : settings_of start.words ≡ Some settings
   pub service : Service D
-  pub asked : IsServiceAsked settings.schema (place_of settings.listen settings.sessions) service
+  pub asked : IsServiceAsked settings.schema (endpoint_of settings.listen settings.sessions) service
   pub ends : MatchOption settings.db (IsInMemory ended (λ e. EndsMemory memory service start.pipes e to))
       (λ _. IsInFile ended (λ e. EndsFile files start.image service start.pipes e to))

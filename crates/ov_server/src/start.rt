@@ -5,7 +5,7 @@ ghost use Rattle.sqlite_wal.specs.Files.{image_at};
 ghost use Rattle.ov_words.specs.Words.{settings_of};
 ghost use Rattle.ov_pipes.specs.Pipes.{pipes_state};
 ghost use Rattle.ov_listen.specs.Environment.{environment_of};
-ghost use Rattle.ov_server.specs.Running.{IsServiceAsked, RunsDatabase, place_of};
+ghost use Rattle.ov_server.specs.Running.{IsServiceAsked, RunsDatabase, endpoint_of};
 ghost use Rattle.ov_server.specs.Schemas.{IsBuiltIn};
 
 use crate::database::built_in_schema;
@@ -14,7 +14,7 @@ use ov_base::Text;
 use ov_core::Schema;
 use ov_ends::{Clock, Sink, Source};
 use ov_keeper::{Keeper, VolatileKeeper};
-use ov_listen::{DatabaseEnded, Place, Service, serve_database};
+use ov_listen::{DatabaseEnded, Endpoint, Service, serve_database};
 use ov_pipes::Pipes;
 use ov_requests::Draws;
 use ov_schema::text_of;
@@ -54,12 +54,12 @@ pub fn words_of<R: Env + AllocGlobal>(rt: &R) -> Result<Vec<String>, Ending>
 }
 
 /// Where the arguments ask for sessions: at an address, or over the pipes.
-fn place_of(listen: Option<Text>, sessions: Option<u64>) -> Place
-    ensures { result ≡ place_of listen sessions }
+fn endpoint_of(listen: Option<Text>, sessions: Option<u64>) -> Endpoint
+    ensures { result ≡ endpoint_of listen sessions }
 {
     match listen {
-        None => Place::Pipes,
-        Some(address) => Place::Address(address, sessions.map(|count| count as usize)),
+        None => Endpoint::Pipes,
+        Some(address) => Endpoint::Address(address, sessions.map(|count| count as usize)),
     }
 }
 
@@ -84,9 +84,9 @@ fn service_of<R: RandomSource, F: Files>(
     rt: &R,
     alloc: Global,
     schema: Option<Text>,
-    place: Place,
+    endpoint: Endpoint,
 ) -> Result<Service<RandomDraws<StdRng>>, Ending>
-    ensures asked { IfOk result (λ service. IsServiceAsked schema place service) }
+    ensures asked { IfOk result (λ service. IsServiceAsked schema endpoint service) }
     ensures kinds { IfErr result (λ ending. (ending ≡ Ending.Memory)
         ⊎ ((ending ≡ Ending.Schema) ⊎ (ending ≡ Ending.Database))) }
 {
@@ -104,7 +104,7 @@ fn service_of<R: RandomSource, F: Files>(
         schema,
         text,
         draws,
-        place,
+        endpoint,
     })
 }
 
@@ -158,8 +158,8 @@ where
         sessions,
         is_on_streams: _,
     } = settings;
-    let place = place_of(listen, sessions);
-    match service_of(host, rt, host.alloc(), schema, place) {
+    let endpoint = endpoint_of(listen, sessions);
+    match service_of(host, rt, host.alloc(), schema, endpoint) {
         Ok(service) => Ok(serve_database(host, rt, db, start, service, pipes)),
         Err(ending) => Err(ending),
     }

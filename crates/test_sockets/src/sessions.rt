@@ -3,7 +3,7 @@
 use crate::addresses::address_of;
 use ov_base::Text;
 use ov_ends::{Clock as MomentClock, Sink, Source};
-use ov_listen::{DatabaseEnded, Place, Service, serve_at, serve_connections, serve_memory};
+use ov_listen::{DatabaseEnded, Endpoint, Service, serve_at, serve_connections, serve_memory};
 use ov_pipes::{MonotonicClock, Pipes, pipes_over};
 use ov_schema::text_of;
 use ov_sockets::{accept_all, listen};
@@ -197,11 +197,11 @@ fn a_port_in_use_ends_as_streams(rt: HostRuntime) -> Result<(), Fail> {
     ends_beside(&rt, rt.alloc(), &listener, "Streams")
 }
 
-/// How sessions end at this place, with a new in-memory database Net.
+/// How sessions end at this endpoint, with a new in-memory database Net.
 fn ending_of<R, S, W, C>(
     rt: &R,
     alloc: Global,
-    place: Place,
+    endpoint: Endpoint,
     pipes: &mut Pipes<S, W, C>,
 ) -> Result<Ending, Fail>
 where
@@ -216,7 +216,7 @@ where
         schema,
         text,
         draws: Counter::new(),
-        place,
+        endpoint,
     };
     Ok(DatabaseEnded::Memory(serve_memory(rt, alloc, service, pipes)).ending())
 }
@@ -235,7 +235,7 @@ where
 {
     let mut output = Vec::new(alloc);
     let mut pipes = pipes_over(rt, alloc, input, &mut output)?;
-    let ended = ending_of(rt, alloc, Place::Pipes, &mut pipes);
+    let ended = ending_of(rt, alloc, Endpoint::Pipes, &mut pipes);
     drop(pipes);
     told_of(alloc, ended, output)
 }
@@ -251,8 +251,8 @@ fn a_session_is_served_over_streams(rt: HostRuntime) -> Result<(), Fail> {
 #[test]
 fn nothing_is_served_where_no_address_is(rt: HostRuntime) -> Result<(), Fail> {
     let address = Text::from_str(rt.alloc(), "127.0.0.1")?;
-    let place = Place::Address(address, Some(1));
+    let endpoint = Endpoint::Address(address, Some(1));
     let mut pipes = pipes_over(&rt, rt.alloc(), b"".as_slice(), Vec::new(rt.alloc()))?;
-    let ending = ending_of(&rt, rt.alloc(), place, &mut pipes)?;
+    let ending = ending_of(&rt, rt.alloc(), endpoint, &mut pipes)?;
     is_ending(rt.alloc(), ending, "Streams")
 }

@@ -3,20 +3,20 @@ use Rattle.std.specs.Prelude.{Result, Ok, Err, OnErr}
 use Rattle.ov_db.specs.declared.fault.RefusedOpen.{RefusedOpen}
 use Rattle.ov_pipes.specs.Pipes.{PipesState, pipes_state}
 use Rattle.ov_listen.specs.declared.database.Service.{Service}
-use Rattle.ov_listen.specs.declared.place.Ended.{Ended}
+use Rattle.ov_listen.specs.declared.endpoint.Ended.{Ended}
 use Rattle.ov_listen.specs.Databases.{EndsMemory, IsNewKeeper, offer_of}
 use Rattle.ov_listen.specs.Environment.{Environment}
-use Rattle.ov_listen.specs.Places.{ServesPlace, RefusesPlace}
+use Rattle.ov_listen.specs.Offers.{ServesOffer, RefusesOffer}
 use Rattle.ov_listen.proofs.database.serve_memory.Goals as goal
 
 -- what came of a new keeper, by what serving it returned
 by_result : {K D C P : Type 0} (e : Environment K D C) (service : Service D) (keeper : K) (view : P → PipesState C) (before after : P) (result : Result (Ended K D) (RefusedOpen K)) → IsNewKeeper e.keeper service.text keeper
-    → IfOk result (λ ended. ServesPlace e keeper (offer_of service) (view before) ended (view after)) → IfErr result (λ refused. RefusesPlace e keeper (offer_of service) refused) → OnErr result (after ≡ before)
+    → IfOk result (λ ended. ServesOffer e keeper (offer_of service) (view before) ended (view after)) → IfErr result (λ refused. RefusesOffer e keeper (offer_of service) refused) → OnErr result (after ≡ before)
     → EndsMemory e service (view before) result (view after)
 by_result e service keeper view before after (Ok ended) is_new served refused same = (keeper, is_new, served)
 by_result e service keeper view before after (Err fault) is_new served refused same = (keeper, is_new, refused, ap view same)
 
 pub returns-clause-ends : goal.returns-clause-ends
 returns-clause-ends g c =
-    let e = c.serve_place.ensures in
-    by_result _ c.args.service c.new.result (pipes_state g.S.Source g.W.Sink) c.args.pipes.now c.serve_place.new.pipes c.serve_place.result (record { found = c.new.ensures; fresh = refl }) e.served e.refused e.untouched
+    let e = c.serve_offer.ensures in
+    by_result _ c.args.service c.new.result (pipes_state g.S.Source g.W.Sink) c.args.pipes.now c.serve_offer.new.pipes c.serve_offer.result (record { found = c.new.ensures; fresh = refl }) e.served e.refused e.untouched

@@ -1,6 +1,6 @@
 use Rattle.std.proofs.Common.{Option, None, Some, IfNone, subst}
 use Rattle.std.specs.Prelude.{IfSome, MatchOption}
-use Rattle.ov_listen.specs.declared.place.Place.{Place}
+use Rattle.ov_listen.specs.declared.endpoint.Endpoint.{Endpoint}
 use Rattle.ov_server.specs.Running.{IsServiceAsked}
 use Rattle.ov_server.proofs.start.run.Goals as goal
 
@@ -17,6 +17,6 @@ returns-in-Ok-service_of-clause-served g c =
       settings = settings;
       given = c.in-Ok.ensures.taken;
       service = service;
-      asked = subst (λ (place : Place). IsServiceAsked settings.schema place service) c.place_of-place.ensures c.in-Ok-service_of.ensures.asked;
+      asked = subst (λ (endpoint : Endpoint). IsServiceAsked settings.schema endpoint service) c.endpoint_of-endpoint.ensures c.in-Ok-service_of.ensures.asked;
       ends = by_path _ _ settings.db c.serve_database.ensures.memory c.serve_database.ensures.file;
     }

@@ -4,7 +4,7 @@ ghost use Rattle.std.specs.Prelude.{◌≡◌, IfOk, IfErr, OnErr};
 ghost use Rattle.ov_pipes.specs.Pipes.{pipes_state};
 ghost use Rattle.ov_pipes.specs.Session.{server_over};
 ghost use Rattle.ov_listen.specs.Environment.{environment_of};
-ghost use Rattle.ov_listen.specs.Places.{EndsPlace, RefusesPlace, ServesPlace};
+ghost use Rattle.ov_listen.specs.Offers.{EndsAt, RefusesOffer, ServesOffer};
 
 use crate::address::serve_at;
 use crate::system::System;
@@ -20,7 +20,7 @@ use std::alloc::Global;
 
 /// Where sessions are served.
 #[derive(Drop)]
-pub enum Place {
+pub enum Endpoint {
     /// One session, over the pipes.
     Pipes,
     /// Sessions over the connections at an address, HOST:PORT: over this many, or with every client if no number is given.
@@ -35,7 +35,7 @@ pub struct Offer<D> {
     /// Where new identifiers come from.
     pub draws: D,
     /// Where sessions are served.
-    pub place: Place,
+    pub endpoint: Endpoint,
 }
 
 /// How sessions ended, and the machine that served them.
@@ -48,7 +48,7 @@ pub struct Ended<K: Keeper, D: Draws> {
 /// Opens the machine over what a keeper holds under the schema, and serves sessions of it: one over the pipes, or those at an
 /// address, as `serve_at` does, by the clock of the pipes. If the machine is not opened, nothing is read or written, and the
 /// server does not listen.
-pub fn serve_place<R, K, D, S, W, C>(
+pub fn serve_offer<R, K, D, S, W, C>(
     rt: &R,
     alloc: Global,
     keeper: K,
@@ -63,20 +63,20 @@ where
     W: Sink,
     C: Clock,
     ensures served { IfOk result
-        (λ ended. ServesPlace (environment_of K.Keeper D.draws C.tells) keeper offer
+        (λ ended. ServesOffer (environment_of K.Keeper D.draws C.tells) keeper offer
         (pipes_state S.Source W.Sink pipes.old) ended (pipes_state S.Source W.Sink pipes.new)) }
     ensures refused { IfErr result
-        (λ refused. RefusesPlace (environment_of K.Keeper D.draws C.tells) keeper offer refused) }
+        (λ refused. RefusesOffer (environment_of K.Keeper D.draws C.tells) keeper offer refused) }
     ensures untouched { OnErr result (pipes.new ≡ pipes.old) }
 {
     let Offer {
         schema,
         draws,
-        place,
+        endpoint,
     } = offer;
     match Core::open(alloc, keeper, schema, draws) {
         Ok(core) => {
-            let ended = serve_core(rt, alloc, core, place, pipes);
+            let ended = serve_core(rt, alloc, core, endpoint, pipes);
             ended.core.shows_left();
             ended.core.shows_would_open();
             Ok(ended)
@@ -85,12 +85,12 @@ where
     }
 }
 
-/// Serves sessions of the machine at the place.
+/// Serves sessions of the machine at the endpoint.
 fn serve_core<R, K, D, S, W, C>(
     rt: &R,
     alloc: Global,
     core: Core<K, D>,
-    place: Place,
+    endpoint: Endpoint,
     pipes: &mut Pipes<S, W, C>,
 ) -> Ended<K, D>
 where
@@ -100,18 +100,18 @@ where
     S: Source,
     W: Sink,
     C: Clock,
-    ensures ends { EndsPlace C.tells place
+    ensures ends { EndsAt C.tells endpoint
         (server_over core (pipes_state S.Source W.Sink pipes.old)) result.ending
         (server_over result.core (pipes_state S.Source W.Sink pipes.new)) }
     ensures honest { K.is_honest result.core.keeper → K.is_honest core.keeper }
 {
-    match place {
-        Place::Pipes => {
+    match endpoint {
+        Endpoint::Pipes => {
             let mut core = core;
             let ending = serve_pipes(rt, alloc, &mut core, pipes);
             Ended { ending, core }
         }
-        Place::Address(address, count) => {
+        Endpoint::Address(address, count) => {
             serve_at(rt, alloc, core, address.as_str(), count, &mut pipes.clock)
         }
     }
