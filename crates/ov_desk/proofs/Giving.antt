@@ -1,7 +1,6 @@
 -- The desk's side of the accepting worker, over time.
-use Rattle.std.proofs.Common.{◌≡◌, List, ◌++◌, refl, sym, ap, subst, ◌∙◌, Option, Some, None, rules}
-use Rattle.rtrb.specs.Ring.{received, SameConsumer, IsPair}
-use Rattle.rtrb.specs.declared.producer.Producer.{Producer}
+use Rattle.std.proofs.Common.{◌≡◌, List, ◌++◌, sym, ap, subst, ◌∙◌, Option, Some, None, rules}
+use Rattle.rtrb.specs.Ring.{received, SameConsumer}
 use Rattle.ov_workers.specs.Accepting.{SameArrivals, arrived, links_in}
 use Rattle.ov_workers.specs.declared.arrivals.Arrivals.{Arrivals}
 use Rattle.ov_workers.specs.declared.link.Link.{Link}

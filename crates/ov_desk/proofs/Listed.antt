@@ -1,5 +1,5 @@
 -- Lists whose elements are among those of another, and facts of elements with consecutive numbers.
-use Rattle.std.proofs.Common.{◌≡◌, inl, inr, ℕ, ◌+◌, ◌<◌, List, [], ◌∷◌, ◌++◌, length, subst, arith}
+use Rattle.std.proofs.Common.{inl, inr, ℕ, ◌+◌, ◌<◌, List, [], ◌∷◌, ◌++◌, length, subst, arith}
 use Rattle.ov_desk.specs.Lists.{AreAmong, EachFrom}
 
 module _ {A : Type 0} where

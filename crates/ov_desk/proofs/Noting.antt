@@ -1,5 +1,5 @@
 -- What notes make of the places of a hall.
-use Rattle.std.proofs.Common.{◌≡◌, inl, inr, ℕ, ◌+◌, List, [], ◌∷◌, ◌++◌, length, get_or, refl, sym, ap, subst, ◌∙◌, append_assoc, append-nil, Bool, true, false, Option, Some, None, cond, arith, rules}
+use Rattle.std.proofs.Common.{◌≡◌, inl, inr, ℕ, List, [], ◌∷◌, ◌++◌, length, get_or, refl, sym, ap, subst, ◌∙◌, append_assoc, append-nil, Bool, true, false, Option, Some, None, cond, arith, rules}
 use Rattle.std.specs.Prelude.{option_to_list, MatchBool}
 use Rattle.rtrb.specs.Ring.{received}
 use Rattle.ov_lanes.specs.Lanes.{SameLane, PutsAlone, StayAs}

@@ -1,5 +1,5 @@
 -- What becomes of a link that is to be served.
-use Rattle.std.specs.Prelude.{◌≡◌, ◌≢◌, ℕ, ◌+◌, ◌<◌, List, length, slice_index_or, slice_set, Some, None, true}
+use Rattle.std.specs.Prelude.{◌≡◌, ◌≢◌, ℕ, ◌+◌, ◌<◌, length, slice_index_or, slice_set, Some, None, true}
 use Rattle.ov_specs.specs.machine.Machine.{Open, is_open}
 use Rattle.ov_sessions.specs.Sessions.{serial_left}
 use Rattle.ov_core.specs.Stepping.{RefusesStep}

@@ -1,5 +1,5 @@
-use Rattle.std.proofs.Common.{◌≡◌, ◌∷◌, [], Some, refl, sym, ap, subst, ◌∙◌, inr}
-use Rattle.rtrb.specs.Ring.{sent, IsPair}
+use Rattle.std.proofs.Common.{◌≡◌, Some, refl, sym, ap, subst, ◌∙◌, inr}
+use Rattle.rtrb.specs.Ring.{IsPair}
 use Rattle.ov_core.specs.Following.{with_clock}
 use Rattle.ov_workers.specs.Accepting.{HaveCome, arrived}
 use Rattle.ov_workers.specs.LinkStates.{ends_of}
