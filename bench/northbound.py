@@ -12,6 +12,7 @@ and of this server, by gdb (`malloc_stats`), what the C library had in use with 
 `ovn-common` has the schema, `openvswitch-common` the peer. FOLDER is for the files, which are removed at the end.
 """
 import json
+import math
 import os
 import shutil
 import socket
@@ -94,11 +95,13 @@ def resident(process, which="VmRSS"):
 
 
 def in_use(server, errors):
-    """The bytes that the server has allocated, by the C library, which writes them to the server's standard error."""
+    """The bytes that the server has allocated, by the C library, which writes them to the server's standard error; not a number
+    where gdb can't have it called, as on some virtual machines."""
     command = ["gdb", "-p", str(server.pid), "-batch", "-ex", "call (void)malloc_stats()"]
-    subprocess.run(command, capture_output=True, check=True)
+    subprocess.run(command, capture_output=True, check=False)
     with open(errors) as file:
-        return int([line for line in file if line.startswith("in use bytes")][-1].split("=")[1])
+        lines = [line for line in file if line.startswith("in use bytes")]
+    return int(lines[-1].split("=")[1]) if lines else math.nan
 
 
 def start(command, port, errors=os.devnull):
