@@ -1,5 +1,5 @@
 -- What comes of a keeper when sessions of its database are served.
-use Rattle.std.specs.Prelude.{◌≡◌, ℕ}
+use Rattle.std.specs.Prelude.{◌≡◌, ℕ, List, []}
 use Rattle.ov_specs.specs.rows.Cells.{Stored}
 use Rattle.ov_db.specs.Committing.{MayFindRows}
 use Rattle.ov_db.specs.declared.fault.RefusedOpen.{RefusedOpen}
@@ -14,16 +14,16 @@ use Rattle.ov_listen.specs.declared.endpoint.Ended.{Ended}
 use Rattle.ov_listen.specs.declared.endpoint.Offer.{Offer}
 use Rattle.ov_listen.specs.declared.endpoint.Endpoint.{Endpoint}
 use Rattle.ov_listen.specs.declared.endpoint.Endpoint.TheVariants.{Pipes, Address}
-use Rattle.ov_listen.specs.Connections.{EndsAddress}
+use Rattle.ov_listen.specs.Connections.{ClientEnd, EndsAddress}
 use Rattle.ov_listen.specs.Environment.{Environment}
 
 module _ {K D C : Type 0} (tells : C → ℕ → C → Type 0) where
-  -- One session was served over the pipes; or those of the connections at the address, and nothing was read from the pipes
-  -- or written to them.
-  abbrev pub EndsAt : Endpoint → ServerState K D C → Ending → ServerState K D C → Type 0
-  EndsAt Pipes old told new = EndsSession tells old told new
-  EndsAt (Address address count) old told new =
-      EndsAddress tells (with_clock old.core old.clock) count told (with_clock new.core new.clock) × (new.reader ≡ old.reader) × (new.writer ≡ old.writer)
+  -- One session was served over the pipes, and no connection remains; or those of the connections at the address, of which this
+  -- remains, and nothing was read from the pipes or written to them.
+  abbrev pub EndsAt : Endpoint → ServerState K D C → Ending → ServerState K D C → List ClientEnd → Type 0
+  EndsAt Pipes old told new remains = EndsSession tells old told new × (remains ≡ [])
+  EndsAt (Address address count) old told new remains =
+      EndsAddress tells (with_clock old.core old.clock) count told (with_clock new.core new.clock) remains × (new.reader ≡ old.reader) × (new.writer ≡ old.writer)
 
 module _ {K D C : Type 0} (e : Environment K D C) where
   -- A core was opened over the keeper, and its sessions came to that. If the keeper is honest at the end, it was when the core
@@ -31,7 +31,7 @@ module _ {K D C : Type 0} (e : Environment K D C) where
   pub record ServesOffer (keeper : K) (offer : Offer D) (from : PipesState C) (ended : Ended K D) (to : PipesState C) : Type 0 where
     pub first : CoreState K D
     pub opens : OpensCore e.keeper e.draws keeper offer.schema offer.draws first
-    pub ends : EndsAt e.tells offer.endpoint (server_over first from) ended.ending (server_over ended.core to)
+    pub ends : EndsAt e.tells offer.endpoint (server_over first from) ended.ending (server_over ended.core to) ended.ends.items
     pub honest : e.keeper.is_honest ended.core.keeper → e.keeper.is_honest first.keeper
     pub leaves : e.keeper.is_honest ended.core.keeper → (held : Stored) → e.keeper.leaves ended.core.keeper held → LeavesItsOwn ended.core.state held
     pub some : e.keeper.is_honest ended.core.keeper → ∥ ((held : Stored) × e.keeper.leaves ended.core.keeper held) ∥₁

@@ -12,6 +12,7 @@ use ov_keeper::Keeper;
 use ov_requests::Draws;
 use ov_sockets::{ListenFault, chosen_line, listen};
 use std::alloc::Global;
+use std::collections::VecDeque;
 use std::net::{Net, TcpListener, TcpStream};
 
 /// Listens at an address, HOST:PORT, accepts connections, and serves a session of the machine over each, all at the same
@@ -19,9 +20,9 @@ use std::net::{Net, TcpListener, TcpStream};
 /// reports it.
 ///
 /// If a number N is given, N connections are accepted: no session is served before all connections are there, and none is
-/// closed before all sessions have ended. The session of a client that went away earlier ends at once. If there are fewer,
-/// nothing is read or written. Without a number every client is served at once, up to 64 at a time, until a connection can't
-/// be accepted.
+/// closed before all sessions have ended. What remains of each comes back. The session of a client that went away earlier
+/// ends at once. If there are fewer, nothing is read or written. Without a number every client is served at once, up to 64 at
+/// a time, until a connection can't be accepted.
 pub fn serve_at<R, K, D, C>(
     rt: &R,
     alloc: Global,
@@ -36,7 +37,7 @@ where
     D: Draws + Drop,
     C: Clock,
     ensures ends { EndsAddress C.tells (with_clock core clock.old) count result.ending
-        (with_clock result.core clock.new) }
+        (with_clock result.core clock.new) result.ends.items }
     ensures honest { K.is_honest result.core.keeper → K.is_honest core.keeper }
 {
     match listening(rt, alloc, address) {
@@ -47,6 +48,7 @@ where
         Err(fault) => Ended {
             ending: ending_of_listening(fault),
             core,
+            ends: VecDeque::new(alloc),
         },
     }
 }

@@ -1,6 +1,8 @@
-ghost use Rattle.std.specs.Prelude.{◌≡◌, IfOk, IfErr, vec_len};
+ghost use Rattle.std.specs.Prelude.{◌≡◌, [], IfOk, IfErr};
+ghost use Rattle.std.specs.VecDeque.{deque_len};
 ghost use Rattle.ov_core.specs.Following.{with_clock};
-ghost use Rattle.ov_listen.specs.Connections.{EndsSoMany, RefusesConnections, ServesConnections};
+ghost use Rattle.ov_sockets.specs.Links.{AreNewClients};
+ghost use Rattle.ov_listen.specs.Connections.{EndsSoMany, RefusesConnections, ServesLinks};
 
 use crate::endings::{ending_of_listening, ending_of_serving};
 use crate::endpoint::Ended;
@@ -10,51 +12,44 @@ use ov_ends::Clock;
 use ov_keeper::Keeper;
 use ov_lanes::Desk;
 use ov_requests::Draws;
-use ov_sockets::{ListenFault, SocketReader, SocketWriter, accept_all, links_of};
+use ov_sockets::{ClientReader, ClientWriter, ListenFault, accept_all};
 use ov_words::Ending;
-use ov_workers::FreeGate;
+use ov_workers::{FreeGate, Link};
 use std::alloc::Global;
-use std::net::{TcpListener, TcpStream};
+use std::collections::VecDeque;
+use std::net::TcpListener;
 use std::rt::Clock as SystemClock;
 use std::sync::Wait;
 use std::thread::Threads;
 
 /// Serves each connection as a session of the machine, all at the same time, as `serve_links` does, and returns what remains
-/// of each. If they are not served, nothing is read or written.
+/// of each. If they are not served, nothing is read or written, and the connections are closed.
 ///
-/// No connection is closed before all sessions have ended; then the owner of the connections closes them.
-pub fn serve_connections<'a, R, K, D, C>(
+/// No connection is closed before all sessions have ended; then the owner of what remains closes them.
+pub fn serve_connections<R, K, D, C>(
     rt: &R,
     alloc: Global,
     core: Core<K, D>,
-    streams: &'a Vec<TcpStream>,
+    links: VecDeque<Link<ClientReader, ClientWriter>>,
     clock: &mut C,
-) -> Result<Served<K, D, SocketReader<'a>, SocketWriter<'a>>, Ended<K, D>>
+) -> Result<Served<K, D, ClientReader, ClientWriter>, Ended<K, D>>
 where
     R: Threads + Wait + SystemClock + Sync,
     K: Keeper + Drop,
     D: Draws + Drop,
     C: Clock,
     ensures served { IfOk result
-        (λ served. ServesConnections C.tells (with_clock core clock.old) streams.entry.now.items
+        (λ served. ServesLinks C.tells (with_clock core clock.old) links.items
         (with_clock served.desk.core clock.new) served.ends.items) }
     ensures refused { IfErr result
-        (λ ended. RefusesConnections (with_clock core clock.old) (vec_len streams.entry.now)
+        (λ ended. RefusesConnections (with_clock core clock.old) (deque_len links)
         ended.ending (with_clock ended.core clock.new)) }
+    ensures none { IfErr result (λ ended. ended.ends.items ≡ []) }
     ensures honest { IfOk result (λ served. K.is_honest served.desk.core.keeper
         → K.is_honest core.keeper) }
     ensures honest_refused { IfErr result (λ ended. K.is_honest ended.core.keeper
         → K.is_honest core.keeper) }
 {
-    let links = match links_of(alloc, streams) {
-        Ok(links) => links,
-        Err(fault) => {
-            return Err(Ended {
-                ending: ending_of_listening(fault),
-                core,
-            });
-        }
-    };
     match serve_links(rt, alloc, Desk::new(alloc, core), links, &FreeGate, clock) {
         Ok(served) => Ok(served),
         Err(unserved) => {
@@ -66,6 +61,7 @@ where
             Err(Ended {
                 ending: ending_of_serving(fault),
                 core: desk.into_core(),
+                ends: VecDeque::new(alloc),
             })
         }
     }
@@ -76,8 +72,9 @@ fn connected(
     alloc: Global,
     listener: TcpListener,
     count: usize,
-) -> Result<Vec<TcpStream>, ListenFault>
-    ensures { IfOk result (λ streams. vec_len streams ≡ count) }
+) -> Result<VecDeque<Link<ClientReader, ClientWriter>>, ListenFault>
+    ensures many { IfOk result (λ links. deque_len links ≡ count) }
+    ensures unused { IfOk result (λ links. AreNewClients links.items) }
 {
     accept_all(alloc, &listener, count)
 }
@@ -98,24 +95,26 @@ where
     D: Draws + Drop,
     C: Clock,
     ensures ends { EndsSoMany C.tells (with_clock core clock.old) count result.ending
-        (with_clock result.core clock.new) }
+        (with_clock result.core clock.new) result.ends.items }
     ensures honest { K.is_honest result.core.keeper → K.is_honest core.keeper }
 {
-    let streams = match connected(alloc, listener, count) {
-        Ok(streams) => streams,
+    let links = match connected(alloc, listener, count) {
+        Ok(links) => links,
         Err(fault) => {
             return Ended {
                 ending: ending_of_listening(fault),
                 core,
+                ends: VecDeque::new(alloc),
             };
         }
     };
-    match serve_connections(rt, alloc, core, &streams, clock) {
+    match serve_connections(rt, alloc, core, links, clock) {
         Ok(served) => {
-            let Served { desk, ends: _ } = served;
+            let Served { desk, ends } = served;
             Ended {
                 ending: Ending::InputEnded,
                 core: desk.into_core(),
+                ends,
             }
         }
         Err(ended) => ended,

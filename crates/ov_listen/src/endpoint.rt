@@ -11,12 +11,15 @@ use crate::system::System;
 use ov_base::Text;
 use ov_core::{Core, Schema};
 use ov_db::RefusedOpen;
+use ov_desk::End;
 use ov_ends::{Clock, Sink, Source};
 use ov_keeper::Keeper;
 use ov_pipes::{Pipes, serve_pipes};
 use ov_requests::Draws;
+use ov_sockets::{ClientReader, ClientWriter};
 use ov_words::Ending;
 use std::alloc::Global;
+use std::collections::VecDeque;
 
 /// Where sessions are served.
 #[derive(Drop)]
@@ -43,6 +46,9 @@ pub struct Offer<D> {
 pub struct Ended<K: Keeper, D: Draws> {
     pub ending: Ending,
     pub core: Core<K, D>,
+    /// What remains of each connection if a number of them was served, in their order; else empty. A connection is closed
+    /// when what remains of it is dropped.
+    pub ends: VecDeque<End<ClientReader, ClientWriter>>,
 }
 
 /// Opens the machine over what a keeper holds under the schema, and serves sessions of it: one over the pipes, or those at an
@@ -102,14 +108,18 @@ where
     C: Clock,
     ensures ends { EndsAt C.tells endpoint
         (server_over core (pipes_state S.Source W.Sink pipes.old)) result.ending
-        (server_over result.core (pipes_state S.Source W.Sink pipes.new)) }
+        (server_over result.core (pipes_state S.Source W.Sink pipes.new)) result.ends.items }
     ensures honest { K.is_honest result.core.keeper → K.is_honest core.keeper }
 {
     match endpoint {
         Endpoint::Pipes => {
             let mut core = core;
             let ending = serve_pipes(rt, alloc, &mut core, pipes);
-            Ended { ending, core }
+            Ended {
+                ending,
+                core,
+                ends: VecDeque::new(alloc),
+            }
         }
         Endpoint::Address(address, count) => {
             serve_at(rt, alloc, core, address.as_str(), count, &mut pipes.clock)

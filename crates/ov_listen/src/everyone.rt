@@ -1,3 +1,4 @@
+ghost use Rattle.std.specs.Prelude.{◌≡◌, []};
 ghost use Rattle.ov_core.specs.Following.{with_clock};
 ghost use Rattle.ov_listen.specs.Connections.{EndsEveryone};
 
@@ -13,6 +14,7 @@ use ov_sockets::Clients;
 use ov_words::Ending;
 use ov_workers::FreeGate;
 use std::alloc::Global;
+use std::collections::VecDeque;
 use std::net::TcpListener;
 use std::rt::Clock as SystemClock;
 use std::sync::Wait;
@@ -33,6 +35,7 @@ where
     C: Clock,
     ensures ends { EndsEveryone C.tells (with_clock core clock.old) result.ending
         (with_clock result.core clock.new) }
+    ensures none { result.ends.items ≡ [] }
     ensures honest { K.is_honest result.core.keeper → K.is_honest core.keeper }
 {
     let clients = Clients::new(alloc, listener);
@@ -40,6 +43,7 @@ where
         Ok(desk) => Ended {
             ending: Ending::Streams,
             core: desk.into_core(),
+            ends: VecDeque::new(alloc),
         },
         Err(refused) => {
             let RefusedLobby {
@@ -50,6 +54,7 @@ where
             Ended {
                 ending: ending_of_serving(fault),
                 core: desk.into_core(),
+                ends: VecDeque::new(alloc),
             }
         }
     }

@@ -55,10 +55,11 @@ where
 }
 
 /// Serves sessions of the database in the file at a path, as `serve_offer` does. `start` stands for what the file and its log
-/// held. If the sessions ended by their input or by their streams, or no client was served for a cause other than memory, the
-/// file is then closed: it holds the whole database, with no log beside it, unless the system refuses that. If the closing
-/// fails, nothing is lost: the file and its log belong together, as after a kill. If the file is refused, nothing is read or
-/// written, the server does not listen, and nothing is copied into the file.
+/// held. The connections are closed once all sessions have ended. If the sessions ended by their input or by their streams,
+/// or no client was served for a cause other than memory, the file is then closed: it holds the whole database, with no log
+/// beside it, unless the system refuses that. If the closing fails, nothing is lost: the file and its log belong together, as
+/// after a kill. If the file is refused, nothing is read or written, the server does not listen, and nothing is copied into
+/// the file.
 ///
 /// No contract ties a path to a file, so none says that the file which is opened and closed is the one at the path.
 pub fn serve_file<R, T, D, S, W, C>(
@@ -92,7 +93,11 @@ where
         draws,
         endpoint,
     };
-    let Ended { ending, core } = match serve_store(rt, host.alloc(), store, offer, pipes) {
+    let Ended {
+        ending,
+        core,
+        ends: _,
+    } = match serve_store(rt, host.alloc(), store, offer, pipes) {
         Ok(ended) => ended,
         Err(ending) => {
             return FileEnded {

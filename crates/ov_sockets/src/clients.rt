@@ -1,6 +1,7 @@
-ghost use Rattle.std.specs.Prelude.{◌≡◌, IfSome};
+ghost use Rattle.std.specs.Prelude.{◌≡◌, IfOk};
 ghost use Rattle.ov_sockets.specs.Links.{GivesClient, IsNewClient};
 
+use crate::fault::ListenFault;
 use ov_ends::Watched;
 use ov_workers::{Link, Listen};
 use std::alloc::Global;
@@ -38,7 +39,7 @@ impl Listen<ClientReader, ClientWriter> for Clients {
         for stream in self.listener.incoming() {
             match stream {
                 Ok(stream) => {
-                    if let Some(link) = client_of(self.alloc, stream) {
+                    if let Ok(link) = client_of(self.alloc, stream) {
                         return Some(link);
                     }
                 }
@@ -61,13 +62,19 @@ fn is_given_up(kind: ErrorKind) -> bool {
     )
 }
 
-/// The two ends of a client's connection, which own it. None if the system has no room for them.
-fn client_of(alloc: Global, stream: TcpStream) -> Option<Link<ClientReader, ClientWriter>>
-    ensures { IfSome result (λ link. IsNewClient link stream) }
+/// The two ends of a client's connection, which own it. What is written is sent at once and not gathered (TCP_NODELAY),
+/// unless the system refuses that.
+///
+/// Returns `Memory` if an allocation fails, and `Refused` if the system has no room for the second end.
+pub(crate) fn client_of(
+    alloc: Global,
+    stream: TcpStream,
+) -> Result<Link<ClientReader, ClientWriter>, ListenFault>
+    ensures { IfOk result (λ link. IsNewClient link stream) }
 {
     let _ = stream.set_nodelay(true);
-    let output = BufWriter::new(alloc, stream.try_clone().ok()?).ok()?;
-    Some(Link {
+    let output = BufWriter::new(alloc, stream.try_clone()?)?;
+    Ok(Link {
         reader: Watched::new(stream),
         writer: Watched::new(output),
     })

@@ -7,7 +7,7 @@ use thiserror::Error;
 #[derive(Clone, Copy, Debug, PartialEq, Eq, Error)]
 pub enum ListenFault {
     /// The text is not an address, or the address is not one of this machine's or is in use; or a connection was not
-    /// accepted.
+    /// accepted, or the system has no descriptor for its second end.
     #[error("no connection")]
     Refused,
     /// An allocation failed.

@@ -9,10 +9,8 @@ mod accept;
 mod address;
 mod clients;
 mod fault;
-mod links;
 
 pub use accept::accept_all;
 pub use address::{chosen_line, listen};
 pub use clients::{ClientReader, ClientWriter, Clients};
 pub use fault::ListenFault;
-pub use links::{SocketReader, SocketWriter, links_of};

@@ -1,15 +1,16 @@
 use crate::sessions::client_of;
 use ov_ends::{Sink, Source};
-use ov_sockets::{SocketReader, SocketWriter, accept_all, links_of, listen};
+use ov_sockets::{ClientReader, ClientWriter, accept_all, listen};
 use ov_workers::Link;
 use std::alloc::Global;
+use std::collections::VecDeque;
 use std::io::{Read, Write};
 use std::net::{Net, Shutdown, TcpListener, TcpStream};
 use std::test::Fail;
 use test_basics::{holds, is_text};
 
 /// Reads up to 16 bytes, sends them back, and returns how many.
-fn echo(link: &mut Link<SocketReader<'_>, SocketWriter<'_>>) -> Option<usize> {
+fn echo(link: &mut Link<ClientReader, ClientWriter>) -> Option<usize> {
     let mut piece = [0; 16];
     let n = link.reader.read(&mut piece)?;
     if link.writer.write(&piece[..n])? == n && link.writer.flush() {
@@ -19,28 +20,29 @@ fn echo(link: &mut Link<SocketReader<'_>, SocketWriter<'_>>) -> Option<usize> {
 }
 
 /// The ends of a connection can be moved into threads of their own.
-fn crosses<S: Send, W: Send>(link: Link<S, W>) -> Link<S, W> {
+fn crosses<S: Send, W: Send>(link: &mut Link<S, W>) -> &mut Link<S, W> {
     link
 }
 
-/// Like `echo`, and drops the link afterwards.
-fn echo_once(link: Link<SocketReader<'_>, SocketWriter<'_>>) -> Option<usize> {
-    let mut link = crosses(link);
-    echo(&mut link)
-}
-
-/// The same for each connection, in order.
-fn echo_all(alloc: Global, streams: &Vec<TcpStream>) -> Result<Vec<usize>, Fail> {
+/// Like `echo` for each connection, in order.
+fn echo_all(
+    alloc: Global,
+    links: &mut VecDeque<Link<ClientReader, ClientWriter>>,
+) -> Result<Vec<usize>, Fail> {
     let mut lengths = Vec::new(alloc);
-    for link in links_of(alloc, streams)? {
-        lengths.push(echo_once(link).ok_or("no echo")?)?;
+    for link in links.iter_mut() {
+        lengths.push(echo(crosses(link)).ok_or("no echo")?)?;
     }
     Ok(lengths)
 }
 
 /// Fails unless these numbers of bytes are sent back.
-fn echoes(alloc: Global, streams: &Vec<TcpStream>, wanted: &str) -> Result<(), Fail> {
-    let lengths = echo_all(alloc, streams)?;
+fn echoes(
+    alloc: Global,
+    links: &mut VecDeque<Link<ClientReader, ClientWriter>>,
+    wanted: &str,
+) -> Result<(), Fail> {
+    let lengths = echo_all(alloc, links)?;
     let told = format!(in alloc; "{lengths:?}")?;
     is_text(alloc, told.as_str(), wanted)
 }
@@ -63,18 +65,18 @@ fn reads(alloc: Global, client: &TcpStream, wanted: &str) -> Result<(), Fail> {
 /// Both clients are answered, and the second goes on after the first has ended.
 fn are_answered(
     alloc: Global,
-    streams: &Vec<TcpStream>,
+    links: &mut VecDeque<Link<ClientReader, ClientWriter>>,
     first: &TcpStream,
     second: &TcpStream,
 ) -> Result<(), Fail> {
     sends(alloc, first, "[1]")?;
     sends(alloc, second, "[22]")?;
-    echoes(alloc, streams, "[3, 4]")?;
+    echoes(alloc, links, "[3, 4]")?;
     reads(alloc, first, "[1]")?;
     reads(alloc, second, "[22]")?;
     first.shutdown(Shutdown::Write)?;
     sends(alloc, second, "{}")?;
-    echoes(alloc, streams, "[0, 2]")?;
+    echoes(alloc, links, "[0, 2]")?;
     reads(alloc, second, "{}")
 }
 
@@ -85,8 +87,8 @@ fn are_accepted(
     first: &TcpStream,
     second: &TcpStream,
 ) -> Result<(), Fail> {
-    let streams = accept_all(alloc, listener, 2)?;
-    are_answered(alloc, &streams, first, second)
+    let mut links = accept_all(alloc, listener, 2)?;
+    are_answered(alloc, &mut links, first, second)
 }
 
 /// The same; then both clients meet the end.

@@ -2,13 +2,16 @@
 
 use crate::addresses::address_of;
 use ov_base::Text;
+use ov_desk::End;
 use ov_ends::{Clock as MomentClock, Sink, Source};
 use ov_listen::{DatabaseEnded, Endpoint, Service, serve_at, serve_connections, serve_memory};
 use ov_pipes::{MonotonicClock, Pipes, pipes_over};
 use ov_schema::text_of;
-use ov_sockets::{accept_all, listen};
+use ov_sockets::{ClientReader, ClientWriter, accept_all, listen};
 use ov_words::Ending;
+use ov_workers::Link;
 use std::alloc::Global;
+use std::collections::VecDeque;
 use std::io::{Read, Write};
 use std::net::{Net, Shutdown, TcpListener, TcpStream};
 use std::rt::Clock;
@@ -90,16 +93,29 @@ fn talk_to_end(alloc: Global, first: &TcpStream, second: &TcpStream, script: &st
     second.shutdown(Shutdown::Write).is_ok() && ended && talked
 }
 
-/// How the sessions over these connections end, with a new in-memory database Net.
+/// How sessions ended, and the serials of what remains of their connections.
+fn told_of_ends(
+    alloc: Global,
+    ending: Ending,
+    ends: &VecDeque<End<ClientReader, ClientWriter>>,
+) -> Result<String, Fail> {
+    let mut serials = Vec::new(alloc);
+    for end in ends {
+        serials.push(end.serial)?;
+    }
+    Ok(format!(in alloc; "{ending:?} {serials:?}")?)
+}
+
+/// The same of sessions over these connections, with a new in-memory database Net.
 fn served<R: Threads + Wait + Clock + Sync>(
     rt: &R,
     alloc: Global,
-    streams: &Vec<TcpStream>,
-) -> Result<Ending, Fail> {
+    links: VecDeque<Link<ClientReader, ClientWriter>>,
+) -> Result<String, Fail> {
     let core = net_core(alloc, Faults::NONE)?;
-    match serve_connections(rt, alloc, core, streams, &mut MonotonicClock::new(rt)) {
-        Ok(_served) => Ok(Ending::InputEnded),
-        Err(ended) => Ok(ended.ending),
+    match serve_connections(rt, alloc, core, links, &mut MonotonicClock::new(rt)) {
+        Ok(served) => told_of_ends(alloc, Ending::InputEnded, &served.ends),
+        Err(ended) => told_of_ends(alloc, ended.ending, &ended.ends),
     }
 }
 
@@ -119,9 +135,10 @@ fn is_ending(alloc: Global, ending: Ending, wanted: &str) -> Result<(), Fail> {
     is_text(alloc, told.as_str(), wanted)
 }
 
-/// Fails unless sessions end with their input, and their clients have talked.
-fn have_talked(alloc: Global, ended: Result<Ending, Fail>, is_as_told: bool) -> Result<(), Fail> {
-    is_ending(alloc, ended?, "InputEnded")?;
+/// Fails unless two sessions end with their input, both connections remain, and their clients have talked.
+fn have_talked(alloc: Global, told: Result<String, Fail>, is_as_told: bool) -> Result<(), Fail> {
+    let told = told?;
+    is_text(alloc, told.as_str(), "InputEnded [1, 2]")?;
     holds(alloc, is_as_told, "the clients have talked to the end")
 }
 
@@ -133,14 +150,13 @@ fn share_a_lock<R: Threads + Wait + Clock + Sync>(
     first: &TcpStream,
     second: &TcpStream,
 ) -> Result<(), Fail> {
-    let accepted = accept_all(alloc, listener, 2)?;
-    let streams = &accepted;
-    let (ended, is_as_told) = thread::join(
+    let links = accept_all(alloc, listener, 2)?;
+    let (told, is_as_told) = thread::join(
         rt,
-        move || served(rt, alloc, streams),
+        move || served(rt, alloc, links),
         move || talk_to_end(alloc, first, second, GIVEN_ON),
     );
-    have_talked(alloc, ended, is_as_told)
+    have_talked(alloc, told, is_as_told)
 }
 
 /// The same with new clients.
