@@ -77,8 +77,8 @@ module _ {K D : Type 0} {start a b : CoreState K D} (p : Since start a) (n : ℕ
         own = λ idle. (
           y.own.is_open ∙ x.own.away,
           y.own.closed ∙ elim x.own.by [
-            | inl (was, closed, known) ↦ now_given_up (course_of p n).closed (course_of x.goes.after n).closed closed (idle_cause (course_of p n) idle)
-            | inr (away, closed, known) ↦ (let other : Some told.Memory ≡ None = known in cc)
+            | inl (was, closed, shut, known) ↦ now_given_up (course_of p n).closed (course_of x.goes.after n).closed closed (idle_cause (course_of p n) idle)
+            | inr (away, closed, shut, known) ↦ (let other : Some told.Memory ≡ None = known in cc)
           ],
         );
         opens = λ other ne.
@@ -91,7 +91,7 @@ module _ {K D : Type 0} {start a b : CoreState K D} (p : Since start a) (n : ℕ
   dropped (inl (mid, closes, drops)) = dropped_open mid closes drops
   dropped (inr (same, away)) = subst (λ (k : CoreState K D). Dropped p n k) (sym same) (record {
     after = p;
-    beside = λ other ne. record { more = []; waiting = sym (append-nil (waiting_for other a.outbox)); silent = λ _. refl; handed = refl; asks = refl; closes = inl (refl, refl) };
+    beside = λ other ne. record { more = []; waiting = sym (append-nil (waiting_for other a.outbox)); silent = λ _. refl; handed = refl; asks = refl; shut = refl; closes = inl (refl, refl) };
     asks = refl;
     own = λ idle. idle_away (course_of p n) idle away;
     opens = λ other ne. refl;

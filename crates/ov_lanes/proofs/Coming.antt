@@ -10,6 +10,7 @@ use Rattle.ov_specs.proofs.laws.Turns.{MayClose, turn_open, turn_tick, turn_clos
 use Rattle.ov_history.specs.declared.event.Entry.{Entry as Kept}
 use Rattle.ov_core.specs.Following.{CoreState}
 use Rattle.ov_history.specs.History.{HasHistory}
+use Rattle.ov_lanes.specs.Courses.{shut_by}
 use Rattle.ov_lanes.specs.Since.{Since}
 use Rattle.ov_lanes.specs.Lanes.{LaneFits}
 use Rattle.ov_lanes.specs.declared.lane.Lane.{Lane}
@@ -84,6 +85,9 @@ module _ {K D : Type 0} {start a : CoreState K D} (p : Since start a) (n : ℕ) 
 
   pub coming_unasked : requests p.entries n ≡ []
   coming_unasked = untouched.unasked
+
+  pub coming_unshut : shut_by p.entries n ≡ []
+  coming_unshut = untouched.unshut
 
   -- so no lane fits it
   pub coming_unserved : (l : Lane) → LaneFits p l → l.session.serial ≡ n → ⊥

@@ -24,7 +24,7 @@ use Rattle.ov_core.specs.Stepping.{StepIs, RefusesStep, Closes, closing}
 use Rattle.ov_core.specs.Passing.{is_due, TicksIf}
 use Rattle.ov_core.proofs.Counted.{counts_none, counts_same, counts_on}
 use Rattle.ov_history.proofs.Histories.{keeps_on}
-use Rattle.ov_lanes.specs.Courses.{Course, Spares}
+use Rattle.ov_lanes.specs.Courses.{Course, Spares, shut_in, shut_by}
 use Rattle.ov_lanes.specs.Moments.{IsAtMoment, AreTimed}
 use Rattle.ov_lanes.specs.Since.{HandsOut, and_then_handed, Since, course_of, Goes}
 use Rattle.ov_lanes.specs.Moving.{ClosesOnce}
@@ -43,6 +43,18 @@ given_same before history given given' core same f = record {
 
 -- ---- an entry
 
+-- one entry more
+shut_more : (h : List Entry) (e : Entry) (n : ℕ) → shut_by (h ++ e ∷ []) n ≡ shut_by h n ++ shut_in n e.event
+shut_more [] e n = append-nil (shut_in n e.event)
+shut_more (x ∷ h) e n = ap (λ l. shut_in n x.event ++ l) (shut_more h e n) ∙ sym (append_assoc (shut_in n x.event) (shut_by h n) (shut_in n e.event))
+
+-- what an event is to a session, if it closes it, and if it closes another one
+shut_of : (n : ℕ) (event : machine.Event) (cause : machine.Cause) → event ≡ Close n cause → shut_in n event ≡ cause ∷ []
+shut_of n event cause is = ap (shut_in n) is ∙ ap (λ (k : Bool). cond k (cause ∷ []) []) (eq-eqb n n refl)
+
+shut_other : (n m : ℕ) (event : machine.Event) (cause : machine.Cause) → event ≡ Close m cause → n ≢ m → shut_in n event ≡ []
+shut_other n m event cause is ne = ap (shut_in n) is ∙ ap (λ (k : Bool). cond k (cause ∷ []) []) (ne_eqb m n (λ same. ne (sym same)))
+
 -- an entry was entered, since a core was the first
 pub record EnteredTo {K D : Type 0} {first a : CoreState K D} (p : Since first a) (e : Entry) (b : CoreState K D) : Type 0 where
   pub after : Since first b
@@ -52,6 +64,7 @@ pub record EnteredTo {K D : Type 0} {first a : CoreState K D} (p : Since first a
   pub counts : CountsWork a (e ∷ []) b
   pub handed : (n : ℕ) → after.handed n ≡ p.handed n
   pub asks : (n : ℕ) → requests after.entries n ≡ requests p.entries n ++ taken_by n e.event
+  pub shut : (n : ℕ) → shut_by after.entries n ≡ shut_by p.entries n ++ shut_in n e.event
   pub closed : (n : ℕ) → closed_by first.state after.entries n ≡ option_or (closed_by first.state p.entries n) (closing_cause n a.state e.event b.state)
   pub waiting : (n : ℕ) → waiting_for n b.outbox ≡ waiting_for n a.outbox ++ frames_to n sent
   pub silent : (n : ℕ) → is_open a.state n ≡ false → frames_to n sent ≡ []
@@ -87,27 +100,34 @@ module _ {K D : Type 0} {first a b : CoreState K D} (p : Since first a) where
         counts = m.follows.counts;
         handed = λ n. refl;
         asks = λ n. requests_more p.entries e n;
+        shut = λ n. shut_more p.entries e n;
         closed = λ n. closed_by_more first.state p.entries a.state e there n (p.sent, p.legal) m.stepped;
         waiting = m.waits;
         silent = λ n away. away_silent n a.state e there m.stepped order away;
       }
 
+  -- it does not close the session
+  pub unshut : (e : Entry) (x : EnteredTo p e b) (n : ℕ) → shut_in n e.event ≡ [] → shut_by x.after.entries n ≡ shut_by p.entries n
+  unshut e x n quiet = x.shut n ∙ (ap (λ (l : List machine.Cause). shut_by p.entries n ++ l) quiet ∙ append-nil (shut_by p.entries n))
+
   -- a session that was not meant by it
-  spared : (e : Entry) (x : EnteredTo p e b) (n : ℕ) → MayClose n a.state e (record { state = b.state; sent = x.sent }) [] → Spares (course_of p n) (course_of x.after n)
-  spared e x n (inl turn) = record {
+  spared : (e : Entry) (x : EnteredTo p e b) (n : ℕ) → shut_in n e.event ≡ [] → MayClose n a.state e (record { state = b.state; sent = x.sent }) [] → Spares (course_of p n) (course_of x.after n)
+  spared e x n quiet (inl turn) = record {
     more = frames_to n x.sent;
     waiting = x.waiting n;
     silent = x.silent n;
     handed = x.handed n;
     asks = x.asks n ∙ (ap (λ (l : List Message). requests p.entries n ++ l) turn.taken_is ∙ append-nil (requests p.entries n));
+    shut = unshut e x n quiet;
     closes = inl (turn.open_is, x.closed n ∙ (ap (option_or (closed_by first.state p.entries n)) turn.cause_is ∙ option_or_none (closed_by first.state p.entries n)));
   }
-  spared e x n (inr (was, turn)) = record {
+  spared e x n quiet (inr (was, turn)) = record {
     more = frames_to n x.sent;
     waiting = x.waiting n;
     silent = x.silent n;
     handed = x.handed n;
     asks = x.asks n ∙ (ap (λ (l : List Message). requests p.entries n ++ l) turn.taken_is ∙ append-nil (requests p.entries n));
+    shut = unshut e x n quiet;
     closes = inr (was, turn.open_is, x.closed n ∙ ap (option_or (closed_by first.state p.entries n)) turn.cause_is);
   }
 
@@ -115,8 +135,8 @@ module _ {K D : Type 0} {first a b : CoreState K D} (p : Since first a) where
   pub entered_timed : (at : ℕ) (e : Entry) (x : EnteredTo p e b) → IsAtMoment at a.state e.choice.moment e.event → AreTimed at a.state (e ∷ []) b.state
   entered_timed at e x is = timed_one at a.state e (record { state = b.state; sent = x.sent }) x.stepped is
 
-  abbrev goes_entered : (at n : ℕ) (e : Entry) (x : EnteredTo p e b) → IsAtMoment at a.state e.choice.moment e.event → ((t : ℕ) → t ≢ n → MayClose t a.state e (record { state = b.state; sent = x.sent }) []) → Goes at n p b
-  goes_entered at n e x is may = record { after = x.after; more = e ∷ []; adds = x.adds; timed = entered_timed at e x is; counts = x.counts; beside = λ t ne. spared e x t (may t ne) }
+  abbrev goes_entered : (at n : ℕ) (e : Entry) (x : EnteredTo p e b) → IsAtMoment at a.state e.choice.moment e.event → ((t : ℕ) → t ≢ n → shut_in t e.event ≡ []) → ((t : ℕ) → t ≢ n → MayClose t a.state e (record { state = b.state; sent = x.sent }) []) → Goes at n p b
+  goes_entered at n e x is quiet may = record { after = x.after; more = e ∷ []; adds = x.adds; timed = entered_timed at e x is; counts = x.counts; beside = λ t ne. spared e x t (quiet t ne) (may t ne) }
 
 -- ---- parts of what is done
 
@@ -221,6 +241,7 @@ module _ {K D : Type 0} {first a b : CoreState K D} (n : ℕ) (p : Since first a
         silent = λ away. refl;
         handed = handed_other t ne;
         asks = refl;
+        shut = refl;
         closes = inl (ap (λ (s : State). is_open s t) same_state, refl);
       };
     };
@@ -228,6 +249,7 @@ module _ {K D : Type 0} {first a b : CoreState K D} (n : ℕ) (p : Since first a
       is_open = ap (λ (s : State). is_open s n) same_state;
       closed = refl;
       asks = refl;
+      shut = refl;
       handed = handed_own;
       waiting = h.waiting;
     };
@@ -243,20 +265,25 @@ module _ {K D : Type 0} {first a : CoreState K D} (at n : ℕ) (p : Since first 
       let t : Stepped = record { state = b.state; sent = x.sent } in
       let turn = turn_close n a.state e t x.stepped why refl in
       record {
-        goes = goes_entered p at n e x (inl refl) (λ k ne. inl (turn_close_other k a.state e t x.stepped n why (λ same. ne (sym same)) refl));
+        goes = goes_entered p at n e x (inl refl) (λ k ne. shut_other k n e.event why refl ne) (λ k ne. inl (turn_close_other k a.state e t x.stepped n why (λ same. ne (sym same)) refl));
         own = record {
           asks = x.asks n ∙ append-nil (requests p.entries n);
           handed = x.handed n;
           waiting = x.waiting n ∙ (ap (λ (l : List (List ℕ)). waiting_for n a.outbox ++ l) (close_spares a.state e t x.stepped n why refl) ∙ append-nil (waiting_for n a.outbox));
           away = turn.open_is;
-          by = inl (close_of_open a.state e t x.stepped n why refl, x.closed n ∙ ap (option_or (closed_by first.state p.entries n)) turn.cause_is, (cause, is, view));
+          by = inl (
+            close_of_open a.state e t x.stepped n why refl,
+            x.closed n ∙ ap (option_or (closed_by first.state p.entries n)) turn.cause_is,
+            x.shut n ∙ ap (λ (l : List machine.Cause). shut_by p.entries n ++ l) (shut_of n e.event why refl),
+            (cause, is, view),
+          );
         };
       }
 
   shuts_none : is_open a.state n ≡ false → known' ≡ known → Does at n p a (λ c d. OwnClosed c d why known known')
   shuts_none away same = record {
     goes = goes_same at n p;
-    own = record { asks = refl; handed = refl; waiting = refl; away = away; by = inr (away, refl, same) };
+    own = record { asks = refl; handed = refl; waiting = refl; away = away; by = inr (away, refl, refl, same) };
   }
 
   pub shuts : (b : CoreState K D) → ClosesOnce n why a b known known' → Does at n p b (λ c d. OwnClosed c d why known known')
@@ -275,15 +302,15 @@ module _ {K D : Type 0} {first a : CoreState K D} (at n : ℕ) (p : Since first 
       let asks : requests x.after.entries n ≡ requests p.entries n ++ message ∷ [] =
       x.asks n ∙ ap (λ (l : List Message). requests p.entries n ++ l) (ap (taken_by n) is ∙ ap (λ (k : Bool). cond k (message ∷ []) []) (eq-eqb n n refl)) in
       record {
-        goes = goes_entered p at n e x (at_moment at a.state e.choice.moment e.event (Take n message) is when) (λ k ne. turn_take_other k a.state e t x.stepped n message (λ same. ne (sym same)) is);
+        goes = goes_entered p at n e x (at_moment at a.state e.choice.moment e.event (Take n message) is when) (λ k ne. ap (shut_in k) is) (λ k ne. turn_take_other k a.state e t x.stepped n message (λ same. ne (sym same)) is);
         own = record {
           more = frames_to n x.sent;
           waiting = x.waiting n;
           silent = x.silent n;
           handed = x.handed n;
           by = elim (turn_take n a.state e t x.stepped message is) [
-            | inl turn ↦ inr (inl (was, turn.open_is ∙ was, x.closed n ∙ (ap (option_or none) turn.cause_is ∙ option_or_none none), asks))
-            | inr (was', turn) ↦ inr (inr (was, turn.open_is, x.closed n ∙ ap (option_or none) turn.cause_is, inl asks))
+            | inl turn ↦ inr (inl (was, turn.open_is ∙ was, x.closed n ∙ (ap (option_or none) turn.cause_is ∙ option_or_none none), asks, unshut p e x n (ap (shut_in n) is)))
+            | inr (was', turn) ↦ inr (inr (was, turn.open_is, x.closed n ∙ ap (option_or none) turn.cause_is, inl (asks, unshut p e x n (ap (shut_in n) is))))
           ];
         };
       }
@@ -294,7 +321,7 @@ module _ {K D : Type 0} {first a : CoreState K D} (at n : ℕ) (p : Since first 
       let t : Stepped = record { state = b.state; sent = x.sent } in
       let turn = turn_close n a.state e t x.stepped machine.Memory is in
       record {
-        goes = goes_entered p at n e x (at_moment at a.state e.choice.moment e.event (Close n machine.Memory) is (inr (refl, when))) (λ k ne. inl (turn_close_other k a.state e t x.stepped n machine.Memory (λ same. ne (sym same)) is));
+        goes = goes_entered p at n e x (at_moment at a.state e.choice.moment e.event (Close n machine.Memory) is (inr (refl, when))) (λ k ne. shut_other k n e.event machine.Memory is ne) (λ k ne. inl (turn_close_other k a.state e t x.stepped n machine.Memory (λ same. ne (sym same)) is));
         own = record {
           more = frames_to n x.sent;
           waiting = x.waiting n;
@@ -304,7 +331,10 @@ module _ {K D : Type 0} {first a : CoreState K D} (at n : ℕ) (p : Since first 
             close_of_open a.state e t x.stepped n machine.Memory is,
             turn.open_is,
             x.closed n ∙ ap (option_or (closed_by first.state p.entries n)) turn.cause_is,
-            inr (x.asks n ∙ (ap (λ (l : List Message). requests p.entries n ++ l) turn.taken_is ∙ append-nil (requests p.entries n))),
+            inr (
+              x.asks n ∙ (ap (λ (l : List Message). requests p.entries n ++ l) turn.taken_is ∙ append-nil (requests p.entries n)),
+              x.shut n ∙ ap (λ (l : List machine.Cause). shut_by p.entries n ++ l) (shut_of n e.event machine.Memory is),
+            ),
           ));
         };
       }
@@ -312,7 +342,7 @@ module _ {K D : Type 0} {first a : CoreState K D} (at n : ℕ) (p : Since first 
   takes_none : is_open a.state n ≡ false → Does at n p a (λ c d. OwnTook c d message)
   takes_none away = record {
     goes = goes_same at n p;
-    own = record { more = []; waiting = sym (append-nil (waiting_for n a.outbox)); silent = λ _. refl; handed = refl; by = inl (away, away, refl, refl) };
+    own = record { more = []; waiting = sym (append-nil (waiting_for n a.outbox)); silent = λ _. refl; handed = refl; by = inl (away, away, refl, refl, refl) };
   }
 
   pub takes : (draws : D → Uuid → D → Type 0) (b : CoreState K D) (r : Reply) → StepIs draws (max at a.state.moment) (Take n message) a r b → Does at n p b (λ c d. OwnTook c d message)
@@ -348,7 +378,7 @@ module _ {K D : Type 0} {first a : CoreState K D} (at : ℕ) (p : Since first a)
         adds = x.adds;
         timed = entered_timed p at e x (at_moment at a.state e.choice.moment e.event Tick is (when, due));
         counts = x.counts;
-        all = λ n. spared p e x n (turn_tick n a.state e t x.stepped is);
+        all = λ n. spared p e x n (ap (shut_in n) is) (turn_tick n a.state e t x.stepped is);
       }
 
   passes_none : Passes at p a

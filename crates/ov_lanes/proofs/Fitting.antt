@@ -17,7 +17,7 @@ use Rattle.ov_history.specs.declared.event.Cause.{Cause}
 use Rattle.ov_history.specs.declared.event.Cause.TheVariants.{Memory}
 use Rattle.ov_history.specs.Entries.{cause_view}
 use Rattle.ov_lanes.specs.Courses.{Course, Spares}
-use Rattle.ov_lanes.specs.Fitting.{Items, brought, end_cause, is_by_reader, Took, framed, PutsFrames, Knows, most_frames, FitsCourse, IsFlushed}
+use Rattle.ov_lanes.specs.Fitting.{Items, brought, end_cause, is_by_reader, Took, framed, PutsFrames, Knows, most_frames, FitsCourse, IsFlushed, IsShut}
 use Rattle.ov_lanes.proofs.Own.{OwnHanded, OwnClosed, OwnTook}
 
 -- ---- whether a session is open, and why it was closed
@@ -88,6 +88,25 @@ took_after : (closed : Option machine.Cause) (asks : List Message) (items : Item
 took_after None asks items item some t = cc
 took_after (Some x) asks items item some t = took_dropped x asks items item t
 
+-- ---- why entries closed it
+
+shut_as : (closed closed' : Option machine.Cause) (shut shut' : List machine.Cause) (asks asks' : List Message) (items : Items) → closed' ≡ closed → shut' ≡ shut → asks' ≡ asks → IsShut closed shut asks items → IsShut closed' shut' asks' items
+shut_as closed closed' shut shut' asks asks' items same same' same'' s =
+    subst (λ (o : Option machine.Cause). IsShut o shut' asks' items) (sym same)
+    (subst (λ (l : List machine.Cause). IsShut closed l asks' items) (sym same') (subst (λ (l : List Message). IsShut closed shut l items) (sym same'') s))
+
+-- what comes after a closing
+shut_after : (closed : Option machine.Cause) (shut : List machine.Cause) (asks : List Message) (items : Items) (item : Brought Message ReadCause) → is_some closed ≡ true → IsShut closed shut asks items → IsShut closed shut asks (items ++ item ∷ [])
+shut_after None shut asks items item some s = cc
+shut_after (Some x) shut asks items item some (inl none) = inl none
+shut_after (Some x) shut asks items item some (inr (inl over)) = inr (inl over)
+shut_after (Some x) shut asks items item some (inr (inr (other, others, is))) =
+    inr (inr (other, others ++ item ∷ [], ap (λ (l : Items). l ++ item ∷ []) is ∙ append_assoc (brought asks) (other ∷ others) (item ∷ [])))
+
+-- no entry closed one that is open
+not_shut : (c : Course) (items : Items) → c.closed ≡ None → IsShut c.closed c.shut c.asks items → c.shut ≡ []
+not_shut c items none s = subst (λ (o : Option machine.Cause). IsShut o c.shut c.asks items) none s
+
 -- ---- what was put
 
 puts_spared : (c d : Course) (marked : Bool) (put : List Sent) → Spares c d → is_some c.closed ≡ not c.is_open → d.is_open ≡ c.is_open → d.closed ≡ c.closed → PutsFrames c marked put → PutsFrames d marked put
@@ -117,6 +136,7 @@ module _ (c d : Course) (known : Option Cause) (items : Items) (put : List Sent)
   spared_on : d.is_open ≡ c.is_open → d.closed ≡ c.closed → FitsCourse d known items put marked ended
   spared_on same_open same_closed = record {
     took = took_as c.closed d.closed c.asks d.asks items same_closed s.asks f.took;
+    shut = shut_as c.closed d.closed c.shut d.shut c.asks d.asks items same_closed s.shut s.asks f.shut;
     puts = puts_spared c d marked put s f.opens same_open same_closed f.puts;
     knows = subst (λ (o : Option machine.Cause). Knows o known) (sym same_closed) f.knows;
     ends = λ is. same_open ∙ f.ends is;
@@ -133,6 +153,7 @@ module _ (c d : Course) (known : Option Cause) (items : Items) (put : List Sent)
       record {
         took = subst (λ (o : Option machine.Cause). Took o d.asks items) (sym memory)
             ([], took ∙ (ap brought (sym s.asks) ∙ sym (append-nil (brought d.asks))), λ of. absurd (false≢true of));
+        shut = subst (λ (o : Option machine.Cause). IsShut o d.shut d.asks items) (sym memory) (inl (s.shut ∙ not_shut c items none f.shut));
         puts = puts_shut c d marked put s was (ap is_by_reader memory) f.puts;
         knows = knows_memory c.closed d.closed known none memory f.knows;
         ends = λ is. away;
@@ -154,6 +175,7 @@ module _ (c d : Course) (known : Option Cause) (items : Items) (put put' : List 
   pub fits_moved : (frames : List (List ℕ)) → OwnHanded c d frames → put' ≡ put ++ framed frames → FitsCourse c known items put false ended → FitsCourse d known items put' false ended
   fits_moved frames o is f = record {
     took = took_as c.closed d.closed c.asks d.asks items o.closed o.asks f.took;
+    shut = shut_as c.closed d.closed c.shut d.shut c.asks d.asks items o.closed o.shut o.asks f.shut;
     puts = (
       is ∙ (ap (λ (l : List Sent). l ++ framed frames) f.puts.0 ∙ (sym (framed-append c.handed frames) ∙ ap framed (sym o.handed))),
       λ by. second_empty frames d.waiting (sym o.waiting ∙ f.puts.1 (sym (ap is_by_reader o.closed) ∙ by)),
@@ -176,6 +198,7 @@ module _ (c : Course) (known : Option Cause) (items : Items) (put : List Sent) (
   pub fits_marked : c.is_open ≡ false → c.waiting ≡ [] → FitsCourse c known items put false ended → FitsCourse c (Some (unwrap_or known Memory)) items (put ++ End ∷ []) true ended
   fits_marked away none f = record {
     took = f.took;
+    shut = f.shut;
     puts = (away, none, (c.handed, ap (λ (l : List Sent). l ++ End ∷ []) f.puts.0, ([], append-nil c.handed), λ by. refl));
     knows = knows_marked c.closed known (f.opens ∙ ap not away) f.knows;
     ends = f.ends;
@@ -219,9 +242,10 @@ module _ (c d e g : Course) (known known' : Option Cause) (items : Items) (put p
   abbrev Made : Type 0
   Made = FitsCourse g (Some (unwrap_or known' Memory)) items (put' ++ End ∷ []) true ended
 
-  made : Took g.closed g.asks items → (is_by_reader g.closed ≡ true → ⊥) → g.closed ≡ Some (cause_view (unwrap_or known' Memory)) → g.closed ≢ Some machine.WriteFault → Made
-  made took not_by closed unfailed = record {
+  made : Took g.closed g.asks items → IsShut g.closed g.shut g.asks items → (is_by_reader g.closed ≡ true → ⊥) → g.closed ≡ Some (cause_view (unwrap_or known' Memory)) → g.closed ≢ Some machine.WriteFault → Made
+  made took shut not_by closed unfailed = record {
     took = took;
+    shut = shut;
     puts = (away_is, none, (c.handed ++ moved, ap (λ (l : List Sent). l ++ End ∷ []) put_is, (last ∷ e.waiting, all_is), λ by. absurd (not_by by)));
     knows = closed;
     ends = λ _. away_is;
@@ -230,50 +254,54 @@ module _ (c d e g : Course) (known known' : Option Cause) (items : Items) (put p
     overrun = λ _. omega (arith, more_than);
   }
 
-  by_overrun : d.is_open ≡ true → e.closed ≡ option_or d.closed (Some machine.Overrun) → (cause : Cause) → known' ≡ Some cause → cause_view cause ≡ machine.Overrun → Made
-  by_overrun was closed cause known_is view =
+  by_overrun : d.is_open ≡ true → e.closed ≡ option_or d.closed (Some machine.Overrun) → e.shut ≡ d.shut ++ machine.Overrun ∷ [] → (cause : Cause) → known' ≡ Some cause → cause_view cause ≡ machine.Overrun → Made
+  by_overrun was closed shut cause known_is view =
       let open_before : c.is_open ≡ true = sym hands.is_open ∙ was in
       let was_none : c.closed ≡ None = not_closed c f.opens open_before in
       let over : g.closed ≡ Some machine.Overrun = drops.closed ∙ (closed ∙ ap (λ (o : Option machine.Cause). option_or o (Some machine.Overrun)) (hands.closed ∙ was_none)) in
       let took : items ≡ brought c.asks = subst (λ (o : Option machine.Cause). Took o c.asks items) was_none f.took in
       made
       (subst (λ (o : Option machine.Cause). Took o g.asks items) (sym over) ([], took ∙ (ap brought (sym asks_is) ∙ sym (append-nil (brought g.asks))), λ of. absurd (false≢true of)))
+      (subst (λ (o : Option machine.Cause). IsShut o g.shut g.asks items) (sym over)
+      (inr (inl (drops.shut ∙ (shut ∙ ap (λ (l : List machine.Cause). l ++ machine.Overrun ∷ []) (hands.shut ∙ not_shut c items was_none f.shut))))))
       (λ by. false≢true (sym (ap is_by_reader over) ∙ by))
       (over ∙ ap (λ x. Some x) (sym view ∙ ap (λ (k : Option Cause). cause_view (unwrap_or k Memory)) (sym known_is)))
       (λ failed. let other : Some machine.Overrun ≡ Some machine.WriteFault = sym over ∙ failed in cc)
 
-  by_others : d.is_open ≡ false → e.closed ≡ d.closed → known' ≡ known → Made
-  by_others away closed known_is =
+  by_others : d.is_open ≡ false → e.closed ≡ d.closed → e.shut ≡ d.shut → known' ≡ known → Made
+  by_others away closed shut known_is =
       let same : g.closed ≡ c.closed = drops.closed ∙ (closed ∙ hands.closed) in
       let away_before : c.is_open ≡ false = sym hands.is_open ∙ away in
       made
       (took_as c.closed g.closed c.asks g.asks items same asks_is f.took)
+      (shut_as c.closed g.closed c.shut g.shut c.asks g.asks items same (drops.shut ∙ (shut ∙ hands.shut)) asks_is f.shut)
       (λ by. not_by_reader (sym (ap is_by_reader same) ∙ by))
       (same ∙ (knows_marked c.closed known (f.opens ∙ ap not away_before) f.knows ∙ ap (λ (k : Option Cause). Some (cause_view (unwrap_or k Memory))) (sym known_is)))
       (λ failed. f.unfailed (sym same ∙ failed))
 
   pub fits_given_up : Made
   fits_given_up = elim closes.by [
-    | inl (was, closed, (cause, known_is, view)) ↦ by_overrun was closed cause known_is view
-    | inr (away, closed, known_is) ↦ by_others away closed known_is
+    | inl (was, closed, shut, (cause, known_is, view)) ↦ by_overrun was closed shut cause known_is view
+    | inr (away, closed, shut, known_is) ↦ by_others away closed shut known_is
   ]
 
 -- ---- what is taken of a ring
 
--- what was put does not depend on what was asked
-puts_besides : (c : Course) (asks : List Message) (marked : Bool) (put : List Sent) → PutsFrames (record c { asks = asks }) marked put → PutsFrames c marked put
-puts_besides c asks false put p = p
-puts_besides c asks true put p = p
+-- what was put does not depend on what was asked, or on why entries closed it
+puts_besides : (c : Course) (asks : List Message) (shut : List machine.Cause) (marked : Bool) (put : List Sent) → PutsFrames (record c { asks = asks; shut = shut }) marked put → PutsFrames c marked put
+puts_besides c asks shut false put p = p
+puts_besides c asks shut true put p = p
 
 module _ (c d : Course) (message : Message) (known : Option Cause) (before : Items) (put : List Sent) (marked ended : Bool) (o : OwnTook c d message) (f : FitsCourse c known before put marked ended) where
-  -- all but the messages
+  -- all but the messages, and why entries closed it
   abbrev Same : Type 0
-  Same = FitsCourse (record d { asks = c.asks }) known before put marked ended
+  Same = FitsCourse (record d { asks = c.asks; shut = c.shut }) known before put marked ended
 
-  with_taken : Same → Took d.closed d.asks (before ++ Brings message ∷ []) → FitsCourse d known (before ++ Brings message ∷ []) put marked ended
-  with_taken s took = record {
+  with_taken : Same → Took d.closed d.asks (before ++ Brings message ∷ []) → IsShut d.closed d.shut d.asks (before ++ Brings message ∷ []) → FitsCourse d known (before ++ Brings message ∷ []) put marked ended
+  with_taken s took shut = record {
     took = took;
-    puts = puts_besides d c.asks marked put s.puts;
+    shut = shut;
+    puts = puts_besides d c.asks c.shut marked put s.puts;
     knows = s.knows;
     ends = s.ends;
     opens = s.opens;
@@ -282,36 +310,43 @@ module _ (c d : Course) (message : Message) (known : Option Cause) (before : Ite
   }
 
   same_by : ((d.is_open ≡ c.is_open) × (d.closed ≡ c.closed)) ⊎ ((c.is_open ≡ true) × (d.is_open ≡ false) × (d.closed ≡ option_or c.closed (Some machine.Memory))) → Same
-  same_by how = fits_spared c (record d { asks = c.asks }) known before put marked ended
-      (record { more = o.more; waiting = o.waiting; silent = o.silent; handed = o.handed; asks = refl; closes = how }) f
+  same_by how = fits_spared c (record d { asks = c.asks; shut = c.shut }) known before put marked ended
+      (record { more = o.more; waiting = o.waiting; silent = o.silent; handed = o.handed; asks = refl; shut = refl; closes = how }) f
 
   taken_open : c.is_open ≡ true → before ≡ brought c.asks
   taken_open was = subst (λ (k : Option machine.Cause). Took k c.asks before) (not_closed c f.opens was) f.took
 
+  taken_unshut : c.is_open ≡ true → c.shut ≡ []
+  taken_unshut was = not_shut c before (not_closed c f.opens was) f.shut
+
+  taken_memory : c.is_open ≡ true → d.closed ≡ option_or c.closed (Some machine.Memory) → d.closed ≡ Some machine.Memory
+  taken_memory was closed = closed ∙ ap (λ (k : Option machine.Cause). option_or k (Some machine.Memory)) (not_closed c f.opens was)
+
   pub fits_took : FitsCourse d known (before ++ Brings message ∷ []) put marked ended
   fits_took = elim o.by [
-    | inl (was, away, closed, asks) ↦
+    | inl (was, away, closed, asks, shut) ↦
         with_taken (same_by (inl (away ∙ sym was, closed)))
         (took_as c.closed d.closed c.asks d.asks (before ++ Brings message ∷ []) closed asks (took_after c.closed c.asks before (Brings message) (f.opens ∙ ap not was) f.took))
-    | inr (inl (was, there, closed, asks)) ↦
+        (shut_as c.closed d.closed c.shut d.shut c.asks d.asks (before ++ Brings message ∷ []) closed shut asks (shut_after c.closed c.shut c.asks before (Brings message) (f.opens ∙ ap not was) f.shut))
+    | inr (inl (was, there, closed, asks, shut)) ↦
+        let none : d.closed ≡ None = closed ∙ not_closed c f.opens was in
         with_taken (same_by (inl (there ∙ sym was, closed)))
-        (subst (λ (k : Option machine.Cause). Took k d.asks (before ++ Brings message ∷ [])) (sym (closed ∙ not_closed c f.opens was))
+        (subst (λ (k : Option machine.Cause). Took k d.asks (before ++ Brings message ∷ [])) (sym none)
         (ap (λ (l : Items). l ++ Brings message ∷ []) (taken_open was) ∙ (sym (brought-more c.asks message) ∙ ap brought (sym asks))))
-    | inr (inr (was, away, closed, asks)) ↦
-        let memory : d.closed ≡ Some machine.Memory = closed ∙ ap (λ (k : Option machine.Cause). option_or k (Some machine.Memory)) (not_closed c f.opens was) in
+        (subst (λ (k : Option machine.Cause). IsShut k d.shut d.asks (before ++ Brings message ∷ [])) (sym none) (shut ∙ taken_unshut was))
+    | inr (inr (was, away, closed, inl (is, shut))) ↦
         with_taken (same_by (inr (was, away, closed)))
-        (subst (λ (k : Option machine.Cause). Took k d.asks (before ++ Brings message ∷ [])) (sym memory) (elim asks [
-          | inl is ↦ (
-            [],
-            ap (λ (l : Items). l ++ Brings message ∷ []) (taken_open was) ∙ (sym (brought-more c.asks message) ∙ (ap brought (sym is) ∙ sym (append-nil (brought d.asks)))),
-            λ of. absurd (false≢true of),
-          )
-          | inr is ↦ (
-            Brings message ∷ [],
-            ap (λ (l : Items). l ++ Brings message ∷ []) (taken_open was ∙ ap brought (sym is)),
-            λ of. absurd (false≢true of),
-          )
-        ]))
+        (subst (λ (k : Option machine.Cause). Took k d.asks (before ++ Brings message ∷ [])) (sym (taken_memory was closed)) (
+          [],
+          ap (λ (l : Items). l ++ Brings message ∷ []) (taken_open was) ∙ (sym (brought-more c.asks message) ∙ (ap brought (sym is) ∙ sym (append-nil (brought d.asks)))),
+          λ of. absurd (false≢true of),
+        ))
+        (subst (λ (k : Option machine.Cause). IsShut k d.shut d.asks (before ++ Brings message ∷ [])) (sym (taken_memory was closed)) (inl (shut ∙ taken_unshut was)))
+    | inr (inr (was, away, closed, inr (is, shut))) ↦
+        let left : before ++ Brings message ∷ [] ≡ brought d.asks ++ Brings message ∷ [] = ap (λ (l : Items). l ++ Brings message ∷ []) (taken_open was ∙ ap brought (sym is)) in
+        with_taken (same_by (inr (was, away, closed)))
+        (subst (λ (k : Option machine.Cause). Took k d.asks (before ++ Brings message ∷ [])) (sym (taken_memory was closed)) (Brings message ∷ [], left, λ of. absurd (false≢true of)))
+        (subst (λ (k : Option machine.Cause). IsShut k d.shut d.asks (before ++ Brings message ∷ [])) (sym (taken_memory was closed)) (inr (inr (Brings message, [], left))))
   ]
 
 -- no reader ends since it did not take what was sent to it
@@ -343,6 +378,8 @@ module _ (c d : Course) (cause : ReadCause) (known known' : Option Cause) (befor
       record {
         took = subst (λ (k : Option machine.Cause). Took k d.asks (before ++ Last cause ∷ [])) (sym is)
             (Last cause ∷ [], ap (λ (l : Items). l ++ Last cause ∷ []) (took ∙ ap brought (sym o.asks)), λ of. (cause, [], refl, refl));
+        shut = subst (λ (k : Option machine.Cause). IsShut k d.shut d.asks (before ++ Last cause ∷ [])) (sym is)
+            (inr (inr (Last cause, [], ap (λ (l : Items). l ++ Last cause ∷ []) (took ∙ ap brought (sym o.asks)))));
         puts = puts_ended marked flushed was f.puts;
         knows = subst (λ (k : Option Cause). Knows d.closed k) (sym known_is) (is ∙ ap (λ k. Some k) (sym view));
         ends = λ _. o.away;
@@ -351,12 +388,13 @@ module _ (c d : Course) (cause : ReadCause) (known known' : Option Cause) (befor
         overrun = λ over. absurd (not_overrun cause (same_cause (end_cause cause) machine.Overrun (sym is ∙ over)));
       }
 
-  ended_shut : c.is_open ≡ false → d.closed ≡ c.closed → known' ≡ known → FitsCourse d known' (before ++ Last cause ∷ []) put marked true
-  ended_shut was closed known_is =
-      let s : Spares c d = record { more = []; waiting = o.waiting ∙ sym (append-nil c.waiting); silent = λ _. refl; handed = o.handed; asks = o.asks; closes = inl (o.away ∙ sym was, closed) } in
+  ended_shut : c.is_open ≡ false → d.closed ≡ c.closed → d.shut ≡ c.shut → known' ≡ known → FitsCourse d known' (before ++ Last cause ∷ []) put marked true
+  ended_shut was closed shut known_is =
+      let s : Spares c d = record { more = []; waiting = o.waiting ∙ sym (append-nil c.waiting); silent = λ _. refl; handed = o.handed; asks = o.asks; shut = shut; closes = inl (o.away ∙ sym was, closed) } in
       let on = fits_spared c d known before put marked ended s f in
       record {
         took = took_after d.closed d.asks before (Last cause) (on.opens ∙ ap not o.away) on.took;
+        shut = shut_after d.closed d.shut d.asks before (Last cause) (on.opens ∙ ap not o.away) on.shut;
         puts = on.puts;
         knows = subst (λ (k : Option Cause). Knows d.closed k) (sym known_is) on.knows;
         ends = λ _. o.away;
@@ -367,8 +405,8 @@ module _ (c d : Course) (cause : ReadCause) (known known' : Option Cause) (befor
 
   pub fits_ended : IsFlushed c marked → FitsCourse d known' (before ++ Last cause ∷ []) put marked true
   fits_ended flushed = elim o.by [
-    | inl (was, closed, (x, known_is, view)) ↦ ended_open flushed was closed x known_is view
-    | inr (was, closed, known_is) ↦ ended_shut was closed known_is
+    | inl (was, closed, shut, (x, known_is, view)) ↦ ended_open flushed was closed x known_is view
+    | inr (was, closed, shut, known_is) ↦ ended_shut was closed shut known_is
   ]
 
 -- one frame more was put

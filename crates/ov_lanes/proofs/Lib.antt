@@ -11,6 +11,7 @@ pub mod Pairs
 pub mod Openings
 pub mod Closing
 pub mod PlaceLaws
+pub mod Entering
 pub mod Turning
 pub mod Flushing
 pub mod Seating

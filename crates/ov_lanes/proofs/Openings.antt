@@ -18,12 +18,12 @@ use Rattle.ov_core.specs.Following.{CoreState, Follows}
 use Rattle.ov_history.specs.History.{HasHistory}
 use Rattle.ov_core.specs.Stepping.{IsEntered}
 use Rattle.ov_core.proofs.Counted.{counts_none}
-use Rattle.ov_lanes.specs.Courses.{Course, Spares}
+use Rattle.ov_lanes.specs.Courses.{Course, Spares, shut_in, shut_by}
 use Rattle.ov_lanes.specs.Since.{Since, course_of, course_before, and_then_handed}
-use Rattle.ov_lanes.specs.Fitting.{FitsCourse, Took, brought, framed, is_by_reader}
+use Rattle.ov_lanes.specs.Fitting.{FitsCourse, IsShut, Took, brought, framed, is_by_reader}
 use Rattle.ov_lanes.specs.Moments.{AreTimed}
 use Rattle.ov_lanes.proofs.Timing.{at_moment, timed_append}
-use Rattle.ov_lanes.proofs.Courses.{EnteredTo, given_same, since_enters, entered_timed}
+use Rattle.ov_lanes.proofs.Courses.{EnteredTo, given_same, since_enters, entered_timed, unshut}
 use Rattle.ov_lanes.proofs.Own.{spares_along}
 use Rattle.ov_lanes.specs.Opening.{IsUntouched, OpensAll, AreSessions}
 
@@ -48,10 +48,10 @@ unfolding since_none
 opens_none a known = record {
   since = since_none a known;
   timed = λ reported. refl;
-  untouched = λ n. (refl, refl, refl);
+  untouched = λ n. (refl, refl, refl, refl);
   next = omega arith;
   others = λ n low. refl;
-  earlier = λ n low. record { more = []; waiting = sym (append-nil (waiting_for n a.outbox)); silent = λ away. refl; handed = refl; asks = refl; closes = inl (refl, refl) };
+  earlier = λ n low. record { more = []; waiting = sym (append-nil (waiting_for n a.outbox)); silent = λ away. refl; handed = refl; asks = refl; shut = refl; closes = inl (refl, refl) };
   there = λ n low high. absurd (omega (arith, low, high));
 }
 
@@ -71,6 +71,9 @@ module _ {K D : Type 0} {start a b : CoreState K D} (p : Since start a) (e : Ent
   pub closed_same : (n : ℕ) → closed_by start.state x.after.entries n ≡ closed_by start.state p.entries n
   closed_same n = x.closed n ∙ (ap (option_or (closed_by start.state p.entries n)) (turn n).cause_is ∙ option_or_none (closed_by start.state p.entries n))
 
+  pub shut_same : (n : ℕ) → shut_by x.after.entries n ≡ shut_by p.entries n
+  shut_same n = unshut p e x n (ap (shut_in n) is)
+
   -- a session that was opened before is open if and only if it was
   others_same : (n : ℕ) → n ≢ a.state.next → is_open b.state n ≡ is_open a.state n
   others_same n ne = (turn n).open_is ∙ (ap (λ (k : Bool). is_open a.state n || k) (ne_eqb a.state.next n (λ same. ne (sym same))) ∙ or_nothing (is_open a.state n))
@@ -82,6 +85,7 @@ module _ {K D : Type 0} {start a b : CoreState K D} (p : Since start a) (e : Ent
     silent = x.silent n;
     handed = x.handed n;
     asks = asks_same n;
+    shut = shut_same n;
     closes = inl (others_same n ne, closed_same n);
   }
 
@@ -90,7 +94,7 @@ module _ {K D : Type 0} {start a b : CoreState K D} (p : Since start a) (e : Ent
   opened_timed when reported = entered_timed p reported e x (at_moment reported a.state e.choice.moment e.event machine.Open is when)
 
   untouched_still : ((n : ℕ) → IsUntouched (course_of p n)) → (n : ℕ) → IsUntouched (course_of x.after n)
-  untouched_still untouched n = let u = untouched n in (closed_same n ∙ u.0, asks_same n ∙ u.1, x.handed n ∙ u.2)
+  untouched_still untouched n = let u = untouched n in (closed_same n ∙ u.0, asks_same n ∙ u.1, x.handed n ∙ u.2, shut_same n ∙ u.3)
 
   pub is_there : is_open b.state a.state.next ≡ true
   is_there = (turn a.state.next).open_is ∙ (ap (λ (k : Bool). is_open a.state a.state.next || k) (eq-eqb a.state.next a.state.next refl) ∙ or_truth (is_open a.state a.state.next))
@@ -99,6 +103,7 @@ module _ {K D : Type 0} {start a b : CoreState K D} (p : Since start a) (e : Ent
 pub fits_new : (c : Course) → IsUntouched c → c.is_open ≡ true → FitsCourse c None [] [] false false
 fits_new c u there = record {
   took = subst (λ (o : Option machine.Cause). Took o c.asks []) (sym u.0) (ap brought (sym u.1));
+  shut = subst (λ (o : Option machine.Cause). IsShut o c.shut c.asks []) (sym u.0) u.3;
   puts = (ap framed (sym u.2), λ by. absurd (false≢true (sym (ap is_by_reader u.0) ∙ by)));
   knows = inl u.0;
   ends = λ ended. absurd (false≢true ended);

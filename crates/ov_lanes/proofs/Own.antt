@@ -9,7 +9,7 @@ use Rattle.ov_history.specs.Entries.{cause_view}
 use Rattle.ov_lanes.specs.Courses.{Course, Spares}
 
 pub spares_same : (c : Course) → Spares c c
-spares_same c = record { more = []; waiting = sym (append-nil c.waiting); silent = λ away. refl; handed = refl; asks = refl; closes = inl (refl, refl) }
+spares_same c = record { more = []; waiting = sym (append-nil c.waiting); silent = λ away. refl; handed = refl; asks = refl; shut = refl; closes = inl (refl, refl) }
 
 pub spares_along : (c d f : Course) → Spares c d → Spares d f → Spares c f
 spares_along c d f x y = record {
@@ -18,6 +18,7 @@ spares_along c d f x y = record {
   silent = λ away. ap (λ (l : List (List ℕ)). l ++ y.more) (x.silent away) ∙ y.silent (still away);
   handed = y.handed ∙ x.handed;
   asks = y.asks ∙ x.asks;
+  shut = y.shut ∙ x.shut;
   closes = elim x.closes [
     | inl (same, closed) ↦ elim y.closes [
       | inl (same', closed') ↦ inl (same' ∙ same, closed' ∙ closed)
@@ -41,6 +42,7 @@ pub record OwnHanded (c d : Course) (frames : List (List ℕ)) : Type 0 where
   pub is_open : d.is_open ≡ c.is_open
   pub closed : d.closed ≡ c.closed
   pub asks : d.asks ≡ c.asks
+  pub shut : d.shut ≡ c.shut
   pub handed : d.handed ≡ c.handed ++ frames
   pub waiting : c.waiting ≡ frames ++ d.waiting
 
@@ -50,8 +52,8 @@ pub record OwnClosed (c d : Course) (why : machine.Cause) (known known' : Option
   pub handed : d.handed ≡ c.handed
   pub waiting : d.waiting ≡ c.waiting
   pub away : d.is_open ≡ false
-  pub by : ((c.is_open ≡ true) × (d.closed ≡ option_or c.closed (Some why)) × ((cause : Cause) × (known' ≡ Some cause) × (cause_view cause ≡ why)))
-      ⊎ ((c.is_open ≡ false) × (d.closed ≡ c.closed) × (known' ≡ known))
+  pub by : ((c.is_open ≡ true) × (d.closed ≡ option_or c.closed (Some why)) × (d.shut ≡ c.shut ++ why ∷ []) × ((cause : Cause) × (known' ≡ Some cause) × (cause_view cause ≡ why)))
+      ⊎ ((c.is_open ≡ false) × (d.closed ≡ c.closed) × (d.shut ≡ c.shut) × (known' ≡ known))
 
 -- A message of the session itself was taken, or it was closed instead as out of memory; or it is closed, and the message was
 -- dropped.
@@ -60,6 +62,7 @@ pub record OwnTook (c d : Course) (message : Message) : Type 0 where
   pub waiting : d.waiting ≡ c.waiting ++ more
   pub silent : c.is_open ≡ false → more ≡ []
   pub handed : d.handed ≡ c.handed
-  pub by : ((c.is_open ≡ false) × (d.is_open ≡ false) × (d.closed ≡ c.closed) × (d.asks ≡ c.asks))
-      ⊎ (((c.is_open ≡ true) × (d.is_open ≡ true) × (d.closed ≡ c.closed) × (d.asks ≡ c.asks ++ message ∷ []))
-      ⊎ ((c.is_open ≡ true) × (d.is_open ≡ false) × (d.closed ≡ option_or c.closed (Some machine.Memory)) × ((d.asks ≡ c.asks ++ message ∷ []) ⊎ (d.asks ≡ c.asks))))
+  pub by : ((c.is_open ≡ false) × (d.is_open ≡ false) × (d.closed ≡ c.closed) × (d.asks ≡ c.asks) × (d.shut ≡ c.shut))
+      ⊎ (((c.is_open ≡ true) × (d.is_open ≡ true) × (d.closed ≡ c.closed) × (d.asks ≡ c.asks ++ message ∷ []) × (d.shut ≡ c.shut))
+      ⊎ ((c.is_open ≡ true) × (d.is_open ≡ false) × (d.closed ≡ option_or c.closed (Some machine.Memory))
+      × (((d.asks ≡ c.asks ++ message ∷ []) × (d.shut ≡ c.shut)) ⊎ ((d.asks ≡ c.asks) × (d.shut ≡ c.shut ++ machine.Memory ∷ [])))))

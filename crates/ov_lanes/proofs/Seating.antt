@@ -17,8 +17,8 @@ use Rattle.ov_lanes.specs.declared.lane.Lane.{Lane}
 use Rattle.ov_lanes.proofs.Courses.{EnteredTo, since_enters}
 use Rattle.ov_lanes.proofs.Own.{spares_along}
 use Rattle.ov_lanes.proofs.Single.{lane_fits}
-use Rattle.ov_lanes.proofs.Openings.{asks_same, closed_same, others_spared, opened_timed, is_there, fits_new}
-use Rattle.ov_lanes.proofs.Coming.{coming_later, coming_away, coming_unclosed, coming_unasked, coming_unserved}
+use Rattle.ov_lanes.proofs.Openings.{asks_same, closed_same, shut_same, others_spared, opened_timed, is_there, fits_new}
+use Rattle.ov_lanes.proofs.Coming.{coming_later, coming_away, coming_unclosed, coming_unasked, coming_unshut, coming_unserved}
 use Rattle.ov_lanes.proofs.PlaceLaws.{open_before, untold_spared, untold_open, none_some, served_on, serves_taken}
 
 -- what an opening makes of a core whose sessions have places
@@ -50,6 +50,7 @@ module _ {K D : Type 0} {start a b : CoreState K D} (at : ℕ) (ls : List (Optio
           closed_same s.since e is x n ∙ coming_unclosed s.since n low,
           asks_same s.since e is x n ∙ coming_unasked s.since n low,
           x.handed n ∙ s.untold n (coming_away s.since n low) (coming_unclosed s.since n low),
+          shut_same s.since e is x n ∙ coming_unshut s.since n low,
         );
         there = is_there s.since e is x;
         later = coming_later s.since n low;

@@ -19,12 +19,13 @@ use Rattle.ov_core.specs.Stepping.{StepIs, RefusesStep, closing}
 use Rattle.ov_core.specs.Passing.{is_due, TicksIf}
 use Rattle.ov_lanes.specs.Fitting.{end_cause}
 use Rattle.ov_lanes.specs.Since.{HandsOut}
-use Rattle.ov_lanes.specs.Lanes.{IsSteady, FlushesDesk}
+use Rattle.ov_lanes.specs.Lanes.{IsServed, IsSteady, FlushesDesk}
 use Rattle.ov_lanes.specs.Moving.{ClosesOnce, MovesFrames, GivesUp, TakesItem, at_lane}
 use Rattle.ov_lanes.specs.declared.desk.Desk.{Desk}
 use Rattle.ov_lanes.specs.declared.lane.Lane.{Lane}
+use Rattle.ov_lanes.proofs.Entering.{overruns_none, overruns_by, overruns_along}
 use Rattle.ov_lanes.proofs.PlaceLaws.{goes_none, goes_along}
-use Rattle.ov_lanes.proofs.Turning.{stay_puts, stay_puts_along}
+use Rattle.ov_lanes.proofs.Turning.{served_puts, stay_puts, stay_puts_along}
 
 -- what may close sessions
 may_close_next : (n : ℕ) (s : State) (e : Entry) (t : Stepped) (taken : List Message) → MayClose n s e t taken → t.state.next ≡ s.next
@@ -83,11 +84,18 @@ module _ {K D : Type 0} (is_honest : K → Type 0) where
   -- ---- a desk that is flushed
 
   pub flushes_none : (a : Desk K D) → FlushesDesk is_honest a a
-  flushes_none a = record { goes = λ moment. goes_none moment a.core a.lanes.items; rings = stay_puts a.lanes.items; steady = steady_none a.core }
+  flushes_none a = record {
+    goes = λ moment. goes_none moment a.core a.lanes.items;
+    enters = overruns_none a.core a.core (IsServed a.lanes.items) refl refl;
+    rings = stay_puts a.lanes.items;
+    steady = steady_none a.core;
+  }
 
   pub flushes_along : (a b c : Desk K D) → FlushesDesk is_honest a b → FlushesDesk is_honest b c → FlushesDesk is_honest a c
   flushes_along a b c x y = record {
     goes = λ moment. goes_along moment a.lanes.items b.lanes.items c.lanes.items (x.goes moment) (y.goes moment);
+    enters = overruns_along a.core b.core c.core (IsServed a.lanes.items) x.enters
+        (overruns_by b.core c.core (IsServed b.lanes.items) (IsServed a.lanes.items) (served_puts a.lanes.items b.lanes.items x.rings) y.enters);
     rings = stay_puts_along a.lanes.items b.lanes.items c.lanes.items x.rings y.rings;
     steady = steady_along a.core b.core c.core x.steady y.steady;
   }

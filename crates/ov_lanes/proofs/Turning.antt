@@ -11,14 +11,16 @@ use Rattle.ov_specs.specs.wire.Message.{Message}
 use Rattle.ov_order.specs.declared.items.Brought.{Brought}
 use Rattle.ov_workers.specs.declared.cause.ReadCause.{ReadCause}
 use Rattle.ov_core.specs.Following.{CoreState}
-use Rattle.ov_lanes.specs.Lanes.{SameLane, LooksAt, PutsAlone, IsAt, StaysAs, StayAs, IsFlushedLane, AreFlushedBelow, IsQuiet, GivesUpIf, unmarked, unmarked_at, TakesAtPlace, TakesAt, TakesOne, LookAll}
+use Rattle.ov_lanes.specs.Entering.{EntersTurn}
+use Rattle.ov_lanes.specs.Lanes.{SameLane, LooksAt, PutsAlone, IsAt, IsServed, StaysAs, StayAs, IsFlushedLane, AreFlushedBelow, IsQuiet, GivesUpIf, unmarked, unmarked_at, TakesItemOf, TakesAtPlace, TakesAt, TakesOne, LookAll}
 use Rattle.ov_lanes.specs.declared.lane.Lane.{Lane}
-use Rattle.ov_lanes.proofs.PlaceLaws.{none_some, at_below}
+use Rattle.ov_lanes.proofs.Entering.{turn_by}
+use Rattle.ov_lanes.proofs.PlaceLaws.{none_some, some_before, at_below}
 
 -- ---- relations place by place
 
 module _ (P Q R : Lane → Lane → Type 0) (along : (l m n : Lane) → P l m → Q m n → R l n) where
-  stays_along : (p q r : Option Lane) → StaysAs P p q → StaysAs Q q r → StaysAs R p r
+  pub stays_along : (p q r : Option Lane) → StaysAs P p q → StaysAs Q q r → StaysAs R p r
   stays_along None q r x y = subst (λ (k : Option Lane). StaysAs Q k r) x y
   stays_along (Some l) None r x y = absurd x
   stays_along (Some l) (Some m) None x y = absurd y
@@ -100,39 +102,67 @@ look_self ls = stay_self LooksAt looks_self ls
 pub look_set : (ls : List (Option Lane)) (i : ℕ) (place place' : Option Lane) → i < length ls → place ≡ get_or ls i place → StaysAs LooksAt place place' → StayAs LooksAt ls (slice_set ls i place')
 look_set = stay_set LooksAt looks_self
 
+-- ---- sessions that are served
+
+-- by the lane that was found at a place
+pub served_here : (ls : List (Option Lane)) (i : ℕ) (place : Option Lane) (l : Lane) → i < length ls → place ≡ get_or ls i place → place ≡ Some l → (n : ℕ) → n ≡ l.session.serial → IsServed ls n
+served_here ls i place l lt read is n same = (i, l, get_or_default ls i None place lt ∙ (sym read ∙ is), sym same)
+
+-- and so they were before
+served_before : (P : Lane → Lane → Type 0) → ((l m : Lane) → P l m → m.session ≡ l.session) → (ls ms : List (Option Lane)) → StayAs P ls ms → (n : ℕ) → IsServed ms n → IsServed ls n
+served_before P same ls ms s n (at, m, is, serial) =
+    let x = some_before P (get_or ls at None) (get_or ms at None) m (s.each at) is in
+    (at, x.0, x.1, sym (ap (λ k. k.serial) (same x.0 m x.2)) ∙ serial)
+
+pub served_puts : (ls ms : List (Option Lane)) → StayAs PutsAlone ls ms → (n : ℕ) → IsServed ms n → IsServed ls n
+served_puts = served_before PutsAlone (λ l m p. p.2)
+
+pub served_same : (ls ms : List (Option Lane)) → StayAs SameLane ls ms → (n : ℕ) → IsServed ms n → IsServed ls n
+served_same = served_before SameLane (λ l m p. p.2)
+
 -- ---- an item that was taken
 
 -- what is known of a place whose lane took an item
-placed : (place place' : Option Lane) → TakesAtPlace place place' → (l m : Lane) × (place ≡ Some l) × (place' ≡ Some m) × TakesAtPlace (Some l) (Some m)
-placed None place' t = absurd t
-placed (Some l) None t = absurd t
-placed (Some l) (Some m) t = (l, m, refl, refl, t)
+placed : {K D : Type 0} (place place' : Option Lane) (old new : CoreState K D) → TakesAtPlace place old place' new → (l m : Lane) × (place ≡ Some l) × (place' ≡ Some m) × TakesItemOf l old m new
+placed None place' old new t = absurd t
+placed (Some l) None old new t = absurd t
+placed (Some l) (Some m) old new t = (l, m, refl, refl, t)
 
-pub takes_set : (ls : List (Option Lane)) (i : ℕ) (place place' : Option Lane) → i < length ls → place ≡ get_or ls i place → TakesAtPlace place place' → TakesAt i ls (slice_set ls i place')
-takes_set ls i place place' lt read t =
-    let x = placed place place' t in
-    record {
-      lane = x.0;
-      lane' = x.1;
-      there = get_or_default ls i None place lt ∙ (sym read ∙ x.2);
-      there' = get_or-set_at ls i i place' None refl lt ∙ x.3;
-      item = x.4.0;
-      taken = x.4.1;
-      others = λ at ne.
-          subst (λ (q : Option Lane). StaysAs (λ l m. received m.inbound ≡ received l.inbound) (get_or ls at None) q) (sym (get_or-set_other ls i at place' None ne))
-          (stays_self (λ l m. received m.inbound ≡ received l.inbound) (λ l. refl) (get_or ls at None));
-    }
+module _ (ls : List (Option Lane)) (i : ℕ) (place place' : Option Lane) (lt : i < length ls) (read : place ≡ get_or ls i place) where
+  abbrev takes_set : (l m : Lane) → place ≡ Some l → place' ≡ Some m → (item : Brought Message ReadCause) → received m.inbound ≡ received l.inbound ++ item ∷ [] → TakesAt i ls (slice_set ls i place')
+  takes_set l m was is item taken = record {
+    lane = l;
+    lane' = m;
+    there = get_or_default ls i None place lt ∙ (sym read ∙ was);
+    there' = get_or-set_at ls i i place' None refl lt ∙ is;
+    item = item;
+    taken = taken;
+    others = λ at ne.
+        subst (λ (q : Option Lane). StaysAs (λ l m. received m.inbound ≡ received l.inbound) (get_or ls at None) q) (sym (get_or-set_other ls i at place' None ne))
+        (stays_self (λ l m. received m.inbound ≡ received l.inbound) (λ l. refl) (get_or ls at None));
+  }
 
-pub some_taken : (place : Option Lane) (l m : Lane) → place ≡ Some l → TakesAtPlace (Some l) (Some m) → TakesAtPlace place (Some m)
-some_taken place l m is t = subst (λ (p : Option Lane). TakesAtPlace p (Some m)) (sym is) t
+  takes_and_enters : {K D : Type 0} (old new : CoreState K D) → TakesAtPlace place old place' new
+      → (t : TakesAt i ls (slice_set ls i place')) × EntersTurn (IsServed ls) t.lane.session.serial t.item old new
+  takes_and_enters old new t =
+      let x = placed place place' old new t in
+      let l = x.0 in let m = x.1 in let taken = x.4 in (
+        takes_set l m x.2 x.3 taken.0 taken.1,
+        turn_by old new taken.0 (λ n. n ≡ l.session.serial) (IsServed ls) (served_here ls i place l lt read x.2) l.session.serial taken.2,
+      )
+
+  pub taken_at : {K D : Type 0} (b : Bool) (old new : CoreState K D) → MatchBool b (TakesAtPlace place old place' new) ((new ≡ old) × StaysAs LooksAt place place')
+      → MatchBool b ((t : TakesAt i ls (slice_set ls i place')) × EntersTurn (IsServed ls) t.lane.session.serial t.item old new) ((new ≡ old) × LookAll ls (slice_set ls i place'))
+  taken_at true old new t = takes_and_enters old new t
+  taken_at false old new (same, looks) = (same, look_set ls i place place' lt read looks)
 
 -- and then more was put
-some_at : (q r : Option Lane) (m : Lane) → q ≡ Some m → StaysAs PutsAlone q r → (n : Lane) × (r ≡ Some n) × PutsAlone m n
+pub some_at : (q r : Option Lane) (m : Lane) → q ≡ Some m → StaysAs PutsAlone q r → (n : Lane) × (r ≡ Some n) × PutsAlone m n
 some_at None r m is x = absurd (none_some m is)
 some_at (Some k) None m is x = absurd x
 some_at (Some k) (Some n) m is x = (n, refl, subst (λ (y : Lane). PutsAlone y n) (same_Some k m is) x)
 
-pub takes_then_puts : (i : ℕ) (ls ms ns : List (Option Lane)) → TakesAt i ls ms → StayAs PutsAlone ms ns → TakesAt i ls ns
+abbrev pub takes_then_puts : (i : ℕ) (ls ms ns : List (Option Lane)) → TakesAt i ls ms → StayAs PutsAlone ms ns → TakesAt i ls ns
 takes_then_puts i ls ms ns t x =
     let y = some_at (get_or ms i None) (get_or ns i None) t.lane' t.there' (x.each i) in
     record {
@@ -149,16 +179,10 @@ takes_then_puts i ls ms ns t x =
 
 -- whether an item was taken of a place
 pub place_taken : {K D : Type 0} (b : Bool) (old new : CoreState K D) (place : Option Lane) (l m : Lane) → place ≡ Some l
-    → MatchBool b ((item : Brought Message ReadCause) × (received m.inbound ≡ received l.inbound ++ item ∷ [])) ((new ≡ old) × LooksAt l m)
-    → MatchBool b (TakesAtPlace place (Some m)) ((new ≡ old) × StaysAs LooksAt place (Some m))
-place_taken true old new place l m is t = subst (λ (p : Option Lane). TakesAtPlace p (Some m)) (sym is) t
+    → MatchBool b (TakesItemOf l old m new) ((new ≡ old) × LooksAt l m)
+    → MatchBool b (TakesAtPlace place old (Some m) new) ((new ≡ old) × StaysAs LooksAt place (Some m))
+place_taken true old new place l m is t = subst (λ (p : Option Lane). TakesAtPlace p old (Some m) new) (sym is) t
 place_taken false old new place l m is (same, looks) = (same, some_stays LooksAt place l m is looks)
-
-pub taken_at : {K D : Type 0} (ls : List (Option Lane)) (i : ℕ) (place place' : Option Lane) → i < length ls → place ≡ get_or ls i place → (b : Bool) (old new : CoreState K D)
-    → MatchBool b (TakesAtPlace place place') ((new ≡ old) × StaysAs LooksAt place place')
-    → MatchBool b (TakesAt i ls (slice_set ls i place')) ((new ≡ old) × LookAll ls (slice_set ls i place'))
-taken_at ls i place place' lt read true old new t = takes_set ls i place place' lt read t
-taken_at ls i place place' lt read false old new (same, looks) = (same, look_set ls i place place' lt read looks)
 
 -- a lane that was found at a place
 pub found_at : (ls : List (Option Lane)) (i serial : ℕ) (place : Option Lane) (l : Lane) → i < length ls → place ≡ get_or ls i place → place ≡ Some l → l.session.serial ≡ serial → (m : Lane) × IsAt ls i m × (m.session.serial ≡ serial)
@@ -174,7 +198,7 @@ taken_more ls i n (Some l) lt read some count before j low = elim (cases_eq j i)
 ]
 
 -- an item of a session was taken, and then more was put
-pub turned : (serial i : ℕ) (ls ms ns : List (Option Lane)) → (l : Lane) × IsAt ls i l × (l.session.serial ≡ serial) → TakesAt i ls ms → StayAs PutsAlone ms ns → TakesOne serial ls ns
+abbrev pub turned : (serial i : ℕ) (ls ms ns : List (Option Lane)) → (l : Lane) × IsAt ls i l × (l.session.serial ≡ serial) → TakesAt i ls ms → StayAs PutsAlone ms ns → TakesOne serial ls ns
 turned serial i ls ms ns (l, is, serial_is) t x =
     let u = takes_then_puts i ls ms ns t x in
     (i, u, ap (λ (k : Lane). k.session.serial) (same_Some u.lane l (sym u.there ∙ is)) ∙ serial_is)

@@ -54,6 +54,15 @@ abbrev pub Took : Option machine.Cause → List Message → Items → Type 0
 Took None messages items = items ≡ brought messages
 Took (Some cause) messages items = (others : Items) × (items ≡ brought messages ++ others) × (is_of_reader cause ≡ true → IsEndFor cause others)
 
+-- an item was taken that is not one of these messages
+abbrev pub LeavesItem : List Message → Items → Type 0
+LeavesItem messages items = (item : Brought Message ReadCause) × (others : Items) × (items ≡ brought messages ++ item ∷ others)
+
+-- An entry closes a session only if its ring had no room, or for an item that was taken and is not one of its messages.
+abbrev pub IsShut : Option machine.Cause → List machine.Cause → List Message → Items → Type 0
+IsShut None shut messages items = shut ≡ []
+IsShut (Some cause) shut messages items = (shut ≡ []) ⊎ ((shut ≡ machine.Overrun ∷ []) ⊎ LeavesItem messages items)
+
 -- ---- what a writer is sent
 
 -- frames, as a writer is sent them
@@ -82,6 +91,7 @@ most_frames = 1024
 -- what a lane has taken and put fits the course of its session
 pub record FitsCourse (c : Course) (cause : Option Cause) (items : Items) (put : List Sent) (marked ended : Bool) : Type 0 where
   pub took : Took c.closed c.asks items
+  pub shut : IsShut c.closed c.shut c.asks items
   pub puts : PutsFrames c marked put
   pub knows : Knows c.closed cause
   pub ends : ended ≡ true → c.is_open ≡ false

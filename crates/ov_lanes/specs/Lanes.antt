@@ -9,6 +9,7 @@ use Rattle.ov_order.specs.declared.items.Brought.{Brought}
 use Rattle.ov_workers.specs.declared.cause.ReadCause.{ReadCause}
 use Rattle.ov_core.specs.Following.{CoreState, CountsWork}
 use Rattle.ov_lanes.specs.Courses.{Course, Spares}
+use Rattle.ov_lanes.specs.Entering.{EntersOverruns, EntersTurn}
 use Rattle.ov_lanes.specs.Moments.{AreTimed}
 use Rattle.ov_lanes.specs.Since.{Since, course_of, course_before, Goes}
 use Rattle.ov_lanes.specs.Fitting.{Items, FitsCourse, IsFlushed}
@@ -81,6 +82,10 @@ pub record StayAs (holds : Lane → Lane → Type 0) (ls ms : List (Option Lane)
 abbrev pub AreNewLanes : ℕ → List (Option Lane) → Type 0
 AreNewLanes serial [] = Unit {0}
 AreNewLanes serial (p ∷ places) = ((lane : Lane) × (p ≡ Some lane) × IsNewLane serial lane) × AreNewLanes (serial + 1) places
+
+-- the session of this serial is served at one of the places
+abbrev pub IsServed : List (Option Lane) → ℕ → Type 0
+IsServed places n = (at : ℕ) × (l : Lane) × IsAt places at l × (l.session.serial ≡ n)
 
 -- no session is served
 abbrev pub AreFree : List (Option Lane) → Type 0
@@ -158,10 +163,13 @@ TakesOne serial ls ms = (place : ℕ) × (t : TakesAt place ls ms) × (t.lane.se
 abbrev pub LookAll : List (Option Lane) → List (Option Lane) → Type 0
 LookAll ls ms = StayAs LooksAt ls ms
 
--- Whether an item of the session was seen. If so, it was taken, and all that waits for any session was moved; otherwise nothing
--- is changed.
+-- Whether an item of the session was seen. If so, it was taken, all that waits for any session was moved, and no session but
+-- its own was closed, unless it is served and its ring had no room; otherwise nothing is changed. What the machine makes of the
+-- item itself may close other sessions, as out of memory.
 abbrev pub Turns : {K D : Type 0} → ℕ → Desk K D → Bool → Desk K D → Type 0
-Turns serial old true new = TakesOne serial old.lanes.items new.lanes.items × AreFlushed new
+Turns serial old true new =
+    (t : TakesOne serial old.lanes.items new.lanes.items) × AreFlushed new
+    × EntersTurn (IsServed old.lanes.items) serial t.1.item old.core new.core
 Turns serial old false new = (new.core ≡ old.core) × LookAll old.lanes.items new.lanes.items
 
 -- ---- for private clauses
@@ -181,19 +189,33 @@ MovesPlace at since (Some l) new (Some m) = Moves at since l new m × (m.session
 abbrev pub AreFlushedBelow : {K D : Type 0} → ℕ → CoreState K D → List (Option Lane) → Type 0
 AreFlushedBelow n core places = (at : ℕ) (l : Lane) → at < n → IsAt places at l → IsFlushedLane core l
 
--- an item of the ring at a place was taken
-abbrev pub TakesAtPlace : Option Lane → Option Lane → Type 0
-TakesAtPlace None p = ⊥
-TakesAtPlace (Some l) None = ⊥
-TakesAtPlace (Some l) (Some m) = (item : Brought Message ReadCause) × (received m.inbound ≡ received l.inbound ++ item ∷ [])
+-- an item of a lane was taken and entered
+abbrev pub TakesItemOf : {K D : Type 0} → Lane → CoreState K D → Lane → CoreState K D → Type 0
+TakesItemOf l old m new =
+    (item : Brought Message ReadCause) × (received m.inbound ≡ received l.inbound ++ item ∷ [])
+    × EntersTurn (λ n. n ≡ l.session.serial) l.session.serial item old new
+
+-- so it was of the lane at a place
+abbrev pub TakesAtPlace : {K D : Type 0} → Option Lane → CoreState K D → Option Lane → CoreState K D → Type 0
+TakesAtPlace None old p new = ⊥
+TakesAtPlace (Some l) old None new = ⊥
+TakesAtPlace (Some l) old (Some m) new = TakesItemOf l old m new
+
+-- so it was of a desk
+abbrev pub TakesAndEnters : {K D : Type 0} → ℕ → Desk K D → Desk K D → Type 0
+TakesAndEnters place old new =
+    (t : TakesAt place old.lanes.items new.lanes.items)
+    × EntersTurn (IsServed old.lanes.items) t.lane.session.serial t.item old.core new.core
 
 -- nothing was taken from the lane, and what is put goes into the same ring
 abbrev pub PutsAlone : Lane → Lane → Type 0
 PutsAlone a b = SameProducer a.outbound b.outbound × (b.inbound ≡ a.inbound) × (b.session ≡ a.session)
 
--- Something that waits may have been moved. The desk goes on from whatever its core was, and nothing is taken from a ring.
+-- Something that waits may have been moved. The desk goes on from whatever its core was, nothing is taken from a ring, and no
+-- session is closed but one that is served and whose ring had no room.
 pub record FlushesDesk {K D : Type 0} (is_honest : K → Type 0) (old new : Desk K D) : Type 0 where
   pub goes : (moment : ℕ) → DeskGoesOn moment old new
+  pub enters : EntersOverruns (IsServed old.lanes.items) old.core new.core
   pub rings : StayAs PutsAlone old.lanes.items new.lanes.items
   pub steady : IsSteady is_honest old.core new.core
 

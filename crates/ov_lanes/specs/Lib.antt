@@ -2,6 +2,7 @@ pub mod Courses
 pub mod Moments
 pub mod Since
 pub mod Fitting
+pub mod Entering
 pub mod Lanes
 pub mod Moving
 pub mod Places

@@ -13,7 +13,7 @@ use Rattle.ov_sessions.specs.declared.session.Session.{Session}
 
 -- the session was opened, and nothing else was done to it
 abbrev pub IsUntouched : Course → Type 0
-IsUntouched c = (c.closed ≡ None) × (c.asks ≡ []) × (c.handed ≡ [])
+IsUntouched c = (c.closed ≡ None) × (c.asks ≡ []) × (c.handed ≡ []) × (c.shut ≡ [])
 
 -- It is open if and only if it was before, it was not closed, and nothing was handed out of it.
 abbrev pub IsLeftAlone : Bool → Course → Type 0

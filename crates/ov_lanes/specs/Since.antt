@@ -6,7 +6,7 @@ use Rattle.ov_specs.specs.machine.History.{run, frames_to, requests, closed_by}
 use Rattle.ov_outbox.specs.Frames.{waiting_for}
 use Rattle.ov_core.specs.Following.{CoreState, Follows, CountsWork, and_all_handed}
 use Rattle.ov_history.specs.History.{KeepsNewest, HasHistory}
-use Rattle.ov_lanes.specs.Courses.{Course, Spares}
+use Rattle.ov_lanes.specs.Courses.{Course, Spares, shut_by}
 use Rattle.ov_lanes.specs.Moments.{AreTimed}
 
 -- these frames were handed out of the session, and nothing else was done
@@ -40,6 +40,7 @@ abbrev pub course_of : {K D : Type 0} {first core : CoreState K D} → Since fir
 course_of {first = first} {core = core} since session = record {
   is_open = is_open core.state session;
   closed = closed_by first.state since.entries session;
+  shut = shut_by since.entries session;
   asks = requests since.entries session;
   handed = since.handed session;
   waiting = waiting_for session core.outbox;
@@ -50,6 +51,7 @@ abbrev pub course_before : {K D : Type 0} → CoreState K D → ℕ → Course
 course_before core session = record {
   is_open = is_open core.state session;
   closed = None;
+  shut = [];
   asks = [];
   handed = [];
   waiting = waiting_for session core.outbox;

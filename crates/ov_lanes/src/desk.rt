@@ -1,6 +1,6 @@
 ghost use Rattle.std.specs.Prelude.{◌≡◌, ◌+◌, ◌<◌, ◌≤◌, [], true, false, vec_len, MatchBool};
 ghost use Rattle.ov_lanes.specs.Lanes.{AreFlushed, AreFlushedBelow, FlushesDesk, DeskGoesOn, IsSteady};
-ghost use Rattle.ov_lanes.specs.Lanes.{LookAll, SameLane, StayAs, TakesAt, Turns, unmarked};
+ghost use Rattle.ov_lanes.specs.Lanes.{LookAll, SameLane, StayAs, TakesAndEnters, Turns, unmarked};
 
 use crate::lane::Lane;
 use crate::lanes::place_of;
@@ -51,7 +51,7 @@ impl<K: Keeper + Drop, D: Draws + Drop> Desk<K, D> {
         requires { at < vec_len self.old.lanes }
         ensures goes { DeskGoesOn moment self.old self.new }
         ensures rings { StayAs SameLane self.old.lanes.items self.new.lanes.items }
-        ensures taken { MatchBool result (TakesAt at self.old.lanes.items self.new.lanes.items)
+        ensures taken { MatchBool result (TakesAndEnters at self.old self.new)
             ((self.new.core ≡ self.old.core) × LookAll self.old.lanes.items self.new.lanes.items) }
         ensures steady { IsSteady K.is_honest self.old.core self.new.core }
     {
@@ -62,8 +62,10 @@ impl<K: Keeper + Drop, D: Draws + Drop> Desk<K, D> {
     }
 
     /// Takes one item of the ring of the session of this serial: enters a message at the moment in milliseconds, or at the
-    /// last one if that is later; an end closes the session. Then moves what waits for all sessions, as `flush` does. Returns
-    /// false if no item was seen, or if the session has no place; then nothing is changed. Takes no lock, and waits for nobody.
+    /// last one if that is later; an end closes the session. Then moves what waits for all sessions, as `flush` does. No other
+    /// entry is made, so no other session is closed unless `flush` finds no room, or the machine closes it as out of memory
+    /// while it works on the item. Returns false if no item was seen, or if the session has no place; then nothing is changed.
+    /// Takes no lock, and waits for nobody.
     pub fn turn(&mut self, alloc: Global, moment: u64, serial: u64) -> bool
         ensures goes { DeskGoesOn moment self.old self.new }
         ensures rings { StayAs SameLane self.old.lanes.items self.new.lanes.items }

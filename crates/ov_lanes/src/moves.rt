@@ -1,16 +1,14 @@
 ghost use Rattle.std.specs.Prelude.{◌≡◌, ◌++◌, ℕ, [], ◌∷◌, true, false, Some, unwrap_or, MatchBool};
-ghost use Rattle.rtrb.specs.Ring.{sent, received};
-ghost use Rattle.ov_order.specs.declared.items.Brought.{Brought as SpecBrought};
+ghost use Rattle.rtrb.specs.Ring.{sent};
 ghost use Rattle.ov_order.specs.declared.items.Sent.TheVariants.{End};
-ghost use Rattle.ov_specs.specs.wire.Message.{Message};
-ghost use Rattle.ov_workers.specs.declared.cause.ReadCause.{ReadCause as SpecReadCause};
 ghost use Rattle.ov_history.specs.Entries.{cause_view};
 ghost use Rattle.ov_core.specs.Following.{CoreState};
 ghost use Rattle.ov_history.specs.declared.event.Cause.TheVariants.{Memory};
+ghost use Rattle.ov_lanes.specs.Entering.{EntersOverruns};
 ghost use Rattle.ov_lanes.specs.Since.{Since};
 ghost use Rattle.ov_lanes.specs.Fitting.{Items, end_cause};
 ghost use Rattle.ov_lanes.specs.Lanes.{Flushes, GivesUpIf, IsSteady, LaneFits, LaneFitsWith, LooksAt};
-ghost use Rattle.ov_lanes.specs.Lanes.{Moves, SameLane};
+ghost use Rattle.ov_lanes.specs.Lanes.{Moves, SameLane, TakesItemOf};
 ghost use Rattle.ov_lanes.specs.Moving.{ClosesOnce, GivesUp, MovesFrames, SameInbound, TakesItem};
 ghost use Rattle.ov_lanes.specs.Moving.{at_lane};
 
@@ -98,6 +96,7 @@ pub(crate) fn flush<K: Keeper + Drop, D: Draws + Drop>(
         (items : Items)
         → LaneFitsWith since items lane.old
         → Flushes at since items lane.old core.new lane.new }
+    ensures enters { EntersOverruns (λ n. n ≡ lane.old.session.serial) core.old core.new }
     ensures gives_up { GivesUpIf result core.old (Some lane.old) core.new (Some lane.new) }
     ensures inbound { SameInbound lane.old lane.new }
     ensures steady { IsSteady K.is_honest core.old core.new }
@@ -117,7 +116,7 @@ pub(crate) fn flush<K: Keeper + Drop, D: Draws + Drop>(
 }
 
 /// Why a session is closed when its reader's end is taken.
-fn cause_of(cause: ReadCause) -> Cause
+fn end_cause(cause: ReadCause) -> Cause
     ensures { cause_view result ≡ end_cause cause }
 {
     match cause {
@@ -150,7 +149,7 @@ fn take_item<K: Keeper + Drop, D: Draws + Drop>(
         }
         Brought::End(cause) => {
             lane.ended = true;
-            close(core, lane, cause_of(cause));
+            close(core, lane, end_cause(cause));
         }
     }
 }
@@ -167,9 +166,7 @@ pub(crate) fn take<K: Keeper + Drop, D: Draws + Drop>(
     ensures moves { (first : CoreState K D) (since : Since first core.old) → LaneFits since lane.old
         → Moves moment since lane.old core.new lane.new }
     ensures rings { SameLane lane.old lane.new }
-    ensures taken { MatchBool result
-        ((item : SpecBrought Message SpecReadCause)
-        × (received lane.new.inbound ≡ received lane.old.inbound ++ item ∷ []))
+    ensures taken { MatchBool result (TakesItemOf lane.old core.old lane.new core.new)
         ((core.new ≡ core.old) × LooksAt lane.old lane.new) }
     ensures steady { IsSteady K.is_honest core.old core.new }
 {

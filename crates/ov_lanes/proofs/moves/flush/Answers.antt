@@ -1,4 +1,4 @@
-use Rattle.std.proofs.Common.{rules, ◌++◌, [], ◌∷◌, true, false, ℕ, Bool, Option, Some, inl, refl, ap, subst, ◌∙◌}
+use Rattle.std.proofs.Common.{rules, ◌≡◌, ◌++◌, [], ◌∷◌, true, false, ℕ, Bool, Option, Some, inl, refl, ap, subst, ◌∙◌}
 use Rattle.std.specs.Prelude.{unwrap_or}
 use Rattle.rtrb.specs.Ring.{sent}
 use Rattle.ov_order.specs.declared.items.Sent.TheVariants.{End}
@@ -7,6 +7,7 @@ use Rattle.ov_history.specs.declared.event.Cause.TheVariants.{Memory}
 use Rattle.ov_lanes.specs.Since.{course_of}
 use Rattle.ov_lanes.specs.Fitting.{FitsCourse}
 use Rattle.ov_lanes.specs.Moving.{GivesUp}
+use Rattle.ov_lanes.proofs.Entering.{overruns_none, overruns_by, overruns_moved, overruns_along, overruns_given_up}
 use Rattle.ov_lanes.proofs.Moving.{flushes_marked, flushes_open, flushes_shut, flushes_given_up}
 use Rattle.ov_lanes.proofs.Single.{flushes_as}
 use Rattle.ov_lanes.proofs.Steady.{steady_none, moves_next, gives_up_next}
@@ -104,3 +105,25 @@ pub returns-else-not-is_open-clause-steady : goal.returns-else-not-is_open-claus
 returns-else-not-is_open-clause-steady g c =
     let l = c.args.lane.now in
     record { next = moves_next l.session.serial true (sent l.outbound) (sent c.move_frames.new.lane.outbound) c.if-not-move_frames.ensures.moves; honest = c.if-not-move_frames.ensures.honest }
+
+pub returns-then-lane-clause-enters : goal.returns-then-lane-clause-enters
+returns-then-lane-clause-enters g c = let core = c.args.core.now in overruns_none core core (λ n. n ≡ c.args.lane.now.session.serial) refl refl
+
+pub returns-then-not-move_frames-clause-enters : goal.returns-then-not-move_frames-clause-enters
+returns-then-not-move_frames-clause-enters g c =
+    let n = c.args.lane.now.session.serial in let l = c.args.lane.now in let m = c.move_frames.new.lane in let e = c.if-not-move_frames.ensures in
+    let old = c.args.core.now in let mid = c.move_frames.new.core in let new = c.give_up.new.core in
+    overruns_along old mid new (λ k. k ≡ n)
+    (overruns_moved old mid (λ k. k ≡ n) n false (sent l.outbound) (sent m.outbound) e.moves)
+    (overruns_by mid new (λ k. k ≡ m.session.serial) (λ k. k ≡ n) (λ k is. is ∙ ap (λ s. s.serial) e.inbound.2)
+    (overruns_given_up m.session.serial mid new m.cause c.give_up.new.lane.cause c.give_up.ensures.gives_up))
+
+pub returns-then-not-is_open-clause-enters : goal.returns-then-not-is_open-clause-enters
+returns-then-not-is_open-clause-enters g c =
+    let l = c.args.lane.now in let n = l.session.serial in
+    overruns_moved c.args.core.now c.move_frames.new.core (λ k. k ≡ n) n true (sent l.outbound) (sent c.move_frames.new.lane.outbound) c.if-not-move_frames.ensures.moves
+
+pub returns-else-not-is_open-clause-enters : goal.returns-else-not-is_open-clause-enters
+returns-else-not-is_open-clause-enters g c =
+    let l = c.args.lane.now in let n = l.session.serial in
+    overruns_moved c.args.core.now c.move_frames.new.core (λ k. k ≡ n) n true (sent l.outbound) (sent c.move_frames.new.lane.outbound) c.if-not-move_frames.ensures.moves

@@ -1,5 +1,7 @@
-use Rattle.std.proofs.Common.{◌++◌, [], ◌∷◌, refl, ap, ◌∙◌}
+use Rattle.std.proofs.Common.{◌≡◌, ℕ, ◌++◌, [], ◌∷◌, refl, ap, subst, ◌∙◌}
 use Rattle.rtrb.specs.Ring.{sent, received}
+use Rattle.ov_lanes.specs.Entering.{EntersItem}
+use Rattle.ov_lanes.proofs.Entering.{overruns_none, enters_item}
 use Rattle.ov_lanes.proofs.Moving.{moves_item}
 use Rattle.ov_lanes.proofs.Single.{moves_as, flushing_of}
 use Rattle.ov_lanes.proofs.PlaceLaws.{looked_moves}
@@ -38,3 +40,20 @@ returns-clause-steady g c = record {
   next = item_next c.flush.new.core c.take_item.new.core g.D.Draws.draws c.args.moment c.in-Ok.item c.flush.new.lane c.take_item.new.lane c.take_item.ensures.takes ∙ c.flush.ensures.steady.next;
   honest = λ honest. c.flush.ensures.steady.honest (c.take_item.ensures.honest honest);
 }
+
+pub returns-clause-taken : goal.returns-clause-taken
+returns-clause-taken g c =
+    let l = c.args.lane.now in let v = c.flush.new.lane in let w = c.take_item.new.lane in
+    let n = l.session.serial in let item = c.in-Ok.item in
+    let ready = c.flush.new.core in let taken = c.take_item.new.core in
+    let same = c.flush.ensures.inbound.2 in (
+      item,
+      ap received c.take_item.ensures.rings.1 ∙ (ap received c.flush.ensures.inbound.1 ∙ c.in-Ok.ensures.ok.0),
+      record {
+        ready = ready;
+        taken = taken;
+        before = c.flush.ensures.enters;
+        enters = subst (λ (k : ℕ). EntersItem k item ready taken) (ap (λ k. k.serial) same) (enters_item ready taken g.D.Draws.draws c.args.moment item v w c.take_item.ensures.takes);
+        after = overruns_none taken taken (λ k. k ≡ n) refl refl;
+      },
+    )
