@@ -1,4 +1,6 @@
-ghost use Rattle.std.specs.Prelude.{◌≡◌, ◌++◌, ◌∷◌, [], ℕ, List, Option, option_to_list};
+ghost use Rattle.std.specs.Prelude.{◌≡◌, ◌++◌, ◌∷◌, [], ℕ, List, None, Option, option_to_list};
+ghost use Rattle.std.specs.Prelude.{MatchOption};
+ghost use Rattle.ov_specs.specs.machine.Machine.{due};
 ghost use Rattle.ov_lanes.specs.Lanes.{AreOver, DeskGoesOn, IsSteady, SameLane, StayAs};
 ghost use Rattle.ov_desk.specs.Guests.{HostsBy, HostsOn, ServesEach, ServesNote, StayOrLeave, TakesNote};
 ghost use Rattle.ov_desk.specs.Guests.{notes_in};
@@ -8,6 +10,7 @@ ghost use Rattle.ov_desk.specs.Serving.{IsTended, KeepsHall, TakesNoted};
 
 use crate::admit::admit;
 use crate::hall::Hall;
+use ov_core::Core;
 use ov_ends::{Clock, Sink, Source};
 use ov_keeper::Keeper;
 use ov_lanes::{Desk, are_over, place_of};
@@ -153,6 +156,36 @@ where
     hall.tend(common.rt, bells);
 }
 
+/// Takes the next note once there is one, and waits for it without end. So call it only while no transaction may time out: time
+/// would not pass for one.
+fn wait_untimed<R: Wait, K: Keeper + Drop, D: Draws + Drop, L: Ledger, G>(
+    common: Common<'_, R, L, G>,
+    _core: &Core<K, D>,
+    taken: &mut Taken,
+) -> u64
+    requires { due _core.now.state ≡ None }
+    ensures { taken.new.serials ≡ taken.old.serials ++ result ∷ [] }
+{
+    common.order.wait_next(common.rt, taken)
+}
+
+/// Takes the next note. While a waiting transaction may time out, returns after a millisecond at most, without a note if none
+/// has come. A caller that `looks` looks for one for a while before it sleeps.
+fn next_note<R: Wait + SystemClock, K: Keeper + Drop, D: Draws + Drop, L: Ledger, G>(
+    common: Common<'_, R, L, G>,
+    core: &Core<K, D>,
+    taken: &mut Taken,
+    looks: bool,
+) -> Option<u64>
+    ensures { MatchOption result (taken.new.serials ≡ taken.old.serials)
+        (λ note. taken.new.serials ≡ taken.old.serials ++ note ∷ []) }
+{
+    match core.due() {
+        None => Some(wait_untimed(common, core, taken)),
+        Some(_) => common.order.wait_briefly(common.rt, taken, looks),
+    }
+}
+
 /// Serves all sessions, one item for each note, until no more links come, each reader's end was taken and the end mark was put
 /// after each session's last frame. Each note is taken from the order once.
 ///
@@ -191,10 +224,7 @@ where
         if !may_come(&hall.accepted) && are_over(&hall.desk.lanes) {
             return;
         }
-        let note = match hall.desk.core.due() {
-            None => Some(common.order.wait_next(common.rt, taken)),
-            Some(_) => common.order.wait_briefly(common.rt, taken, is_busy),
-        };
+        let note = next_note(common, &hall.desk.core, taken, is_busy);
         is_busy = note.is_some();
         serve_note(common, scope, bells, hall, clock.now(), note);
     }

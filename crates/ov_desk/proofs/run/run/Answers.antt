@@ -4,7 +4,6 @@ use Rattle.ov_workers.specs.LinkStates.{ends_of}
 use Rattle.ov_desk.proofs.Guests.{hosts_first, hosts_more}
 use Rattle.ov_desk.proofs.Noting.{each_more, taken_more}
 use Rattle.ov_desk.proofs.Running.{hall_along, hall_same, noted_more, briefly}
-use Rattle.ov_desk.proofs.run.run.Goals.{in-None-due, in-Some-due}
 use Rattle.ov_desk.proofs.run.run.Goals as goal
 
 pub loop-init : goal.loop-init
@@ -18,23 +17,18 @@ loop-init g c = record {
 
 pub loop-preserved : goal.loop-preserved
 loop-preserved g c =
-    let was = c.loop.invariant in let note = option_to_list c.match-due.note in
+    let was = c.loop.invariant in let note = option_to_list c.next_note-note.result in
     let a = c.args.hall.now in let b = c.loop.hall in let h = c.serve_note.new.hall in
-    let first = c.args.taken.now.serials in let before = c.loop.taken.serials in let after = c.match-due.taken.serials in
-    let told : after ≡ before ++ note = elim c.match-due.branch [
-      | in-None-due w ↦ ap (λ t. t.serials) w.taken-is ∙ (w.wait_next.ensures ∙ ap (λ o. before ++ option_to_list o) (sym w.note-is))
-      | in-Some-due w ↦
-          ap (λ t. t.serials) w.taken-is
-          ∙ (briefly before w.wait_briefly-note.new.taken.serials w.wait_briefly-note.result w.wait_briefly-note.ensures ∙ ap (λ o. before ++ option_to_list o) (sym w.note-is))
-    ] in
+    let first = c.args.taken.now.serials in let before = c.loop.taken.serials in let after = c.next_note-note.new.taken.serials in
+    let told : after ≡ before ++ note = briefly before after c.next_note-note.result c.next_note-note.ensures in
     record {
       hosts = hosts_more (ends_of g.S.Source g.W.Sink) g.C.Clock.tells a b h c.args.clock.now c.loop.clock c.now.new.self c.now.result was.hosts c.now.ensures c.serve_note.ensures.hosts;
       noted = (
-        was.noted.0 ++ c.match-due.note ∷ [],
-        taken_more first before after was.noted.0 c.match-due.note was.noted.1 told,
-        each_more (ends_of g.S.Source g.W.Sink) was.noted.0 c.match-due.note a b h was.noted.2 c.serve_note.ensures.noted,
+        was.noted.0 ++ c.next_note-note.result ∷ [],
+        taken_more first before after was.noted.0 c.next_note-note.result was.noted.1 told,
+        each_more (ends_of g.S.Source g.W.Sink) was.noted.0 c.next_note-note.result a b h was.noted.2 c.serve_note.ensures.noted,
       );
-      kept = (was.kept.0 ++ note, noted_more first before after was.kept.0 c.match-due.note was.kept.1 told, hall_along was.kept.0 note a b h was.kept.2 c.serve_note.ensures.kept);
+      kept = (was.kept.0 ++ note, noted_more first before after was.kept.0 c.next_note-note.result was.kept.1 told, hall_along was.kept.0 note a b h was.kept.2 c.serve_note.ensures.kept);
       honest = λ honest. was.honest (c.serve_note.ensures.honest honest);
       seats = c.serve_note.ensures.seats;
     }
