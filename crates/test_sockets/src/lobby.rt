@@ -9,7 +9,7 @@ use ov_requests::Draws;
 use ov_sockets::listen;
 use ov_workers::{FreeGate, Link, Listen};
 use std::alloc::Global;
-use std::fs::{Files, read_dir};
+use std::fs::{Files, read_dir, read_to_string};
 use std::net::{Net, Shutdown, TcpListener, TcpStream};
 use std::rt::Clock as SystemClock;
 use std::sync::Wait;
@@ -140,13 +140,17 @@ fn one_is_closed_for_damage_while_another_stays(rt: HostRuntime) -> Result<(), F
 }
 
 /// How many connections come one after another.
-const MANY: usize = 300;
+const MANY: usize = 10_000;
 
-/// How many have come when it is first looked at what the process has.
-const EARLY: usize = 20;
+/// How many have come at the first look at what the process has. The machine keeps the last 4,096 entries of its history, of
+/// which each connection makes three, so by then it has as many as it keeps.
+const EARLY: usize = 2_000;
 
 /// How many more threads or descriptors there may be: those of the connection before may be there for a moment.
 const SLACK: usize = 8;
+
+/// How many more pages of memory there may be, of 4,096 bytes: half a page for each of the connections after the first look.
+const SLACK_PAGES: usize = 4_000;
 
 /// The number of names in a folder.
 fn count_names<R: Files + Alloc + Clone + Drop>(rt: &R, path: &str) -> Option<usize> {
@@ -158,11 +162,18 @@ fn count_names<R: Files + Alloc + Clone + Drop>(rt: &R, path: &str) -> Option<us
     Some(count)
 }
 
-/// How many threads and descriptors the process has.
+/// How many pages of memory the process has.
+fn count_pages<R: Files + Alloc + Clone + Drop>(rt: &R) -> Option<usize> {
+    let text = read_to_string(rt, "/proc/self/statm").ok()?;
+    text.as_str().split(" ").nth(1)?.parse::<usize>().ok()
+}
+
+/// How many threads, descriptors and pages of memory the process has.
 #[derive(Clone, Copy, Drop)]
 struct Held {
     threads: usize,
     descriptors: usize,
+    pages: usize,
 }
 
 impl Held {
@@ -171,13 +182,14 @@ impl Held {
         Some(Held {
             threads: count_names(rt, "/proc/self/task")?,
             descriptors: count_names(rt, "/proc/self/fd")?,
+            pages: count_pages(rt)?,
         })
     }
 }
 
-/// By how much a number has grown, apart from a few.
-fn growth(before: usize, after: usize) -> usize {
-    after.saturating_sub(before.saturating_add(SLACK))
+/// By how much a number has grown, apart from this.
+fn growth(before: usize, after: usize, slack: usize) -> usize {
+    after.saturating_sub(before.saturating_add(slack))
 }
 
 /// How many seconds a client waits for its echo.
@@ -187,17 +199,16 @@ const PATIENCE: u64 = 20;
 const ECHO: &str = r#"1 sends {"id":1,"method":"echo","params":["x"]}
 1 reads {"error":null,"id":1,"result":["x"]}"#;
 
-/// Connects, and has an echo answered. Returns what the process has before the connection ends.
-fn visit<R>(rt: &R, alloc: Global, listener: &TcpListener) -> Option<Held>
+/// Connects, and has an echo answered.
+fn visit<R>(rt: &R, alloc: Global, listener: &TcpListener) -> Option<()>
 where
-    R: Net<Listener = TcpListener, Stream = TcpStream> + Files + Alloc + Clone + Drop,
+    R: Net<Listener = TcpListener, Stream = TcpStream>,
 {
     let client = TcpStream::connect(rt, listener.local_addr().ok()?).ok()?;
     client
         .set_read_timeout(Some(Duration::from_secs(PATIENCE)))
         .ok()?;
-    talk(alloc, &client, &client, ECHO)?;
-    Held::now(rt)
+    talk(alloc, &client, &client, ECHO)
 }
 
 /// What many clients found that came one after another.
@@ -213,24 +224,25 @@ fn visit_often<R>(rt: &R, alloc: Global, listener: &TcpListener) -> Visits
 where
     R: Net<Listener = TcpListener, Stream = TcpStream> + Files + Alloc + Clone + Drop,
 {
-    let mut visits = Visits {
-        answered: 0,
-        early: None,
-        late: None,
-    };
+    let mut answered: usize = 0;
+    let mut early = None;
     for number in 1..MANY + 1 {
-        visits.late = visit(rt, alloc, listener);
-        if visits.late.is_some() {
-            visits.answered = visits.answered.saturating_add(1);
+        if visit(rt, alloc, listener).is_some() {
+            answered = answered.saturating_add(1);
         }
         if number == EARLY {
-            visits.early = visits.late;
+            early = Held::now(rt);
         }
     }
-    visits
+    Visits {
+        answered,
+        early,
+        late: Held::now(rt),
+    }
 }
 
-/// Fails unless each client was opened, answered and closed, and the process has no more threads and descriptors than before.
+/// Fails unless each client was opened, answered and closed, and the process has no more threads, descriptors and memory than
+/// after the first of them.
 fn nothing_grows(
     alloc: Global,
     entries: Result<Option<usize>, Fail>,
@@ -240,10 +252,14 @@ fn nothing_grows(
     let (Some(early), Some(late)) = (visits.early, visits.late) else {
         return Err("no look at the process")?;
     };
-    let threads = growth(early.threads, late.threads);
-    let descriptors = growth(early.descriptors, late.descriptors);
-    let told = format!(in alloc; "{entries:?} {} {threads} {descriptors}", visits.answered)?;
-    is_text(alloc, told.as_str(), "Some(900) 300 0 0")
+    let threads = growth(early.threads, late.threads, SLACK);
+    let descriptors = growth(early.descriptors, late.descriptors, SLACK);
+    let pages = growth(early.pages, late.pages, SLACK_PAGES);
+    let told = format!(in alloc;
+        "{entries:?} {} {threads} {descriptors} {pages}",
+        visits.answered
+    )?;
+    is_text(alloc, told.as_str(), "Some(4096) 10000 0 0 0")
 }
 
 /// The same with clients that come while a lobby serves a listener.
