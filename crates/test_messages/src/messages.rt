@@ -1,5 +1,5 @@
 use ov_base::{Bytes, Text, Tree, Trees};
-use ov_rpc::{BadKind, Incoming, Message, Received, RpcFault, reply};
+use ov_rpc::{BadKind, Incoming, Message, MessageText, Received, RpcFault, reply};
 use std::alloc::{AllocError, Global};
 use std::test::Fail;
 use test_basics::{Scripted, agrees, compact, is_text};
@@ -168,18 +168,31 @@ impl Scripted for Messages {
 #[derive(Drop)]
 struct Incomings;
 
+/// What the bytes of a reply are in words.
+fn words_of_echo(alloc: Global, frame: &Bytes) -> Result<String, Fail> {
+    let frame = str::from_utf8(frame.as_slice())?;
+    Ok(format!(in alloc; "echo {frame}")?)
+}
+
+/// What was taken in, in words. Fails unless the text that was kept is the one that came.
+fn words_of_taken(
+    alloc: Global,
+    incoming: &Incoming,
+    kept: &MessageText,
+    text: &str,
+) -> Result<String, Fail> {
+    is_text(alloc, str::from_utf8(kept.as_slice())?, text)?;
+    match incoming {
+        Incoming::Echo(frame) => words_of_echo(alloc, frame),
+        Incoming::Message(message) => words_of(alloc, message),
+    }
+}
+
 impl Scripted for Incomings {
     fn answer(&mut self, alloc: Global, command: &str) -> Result<String, Fail> {
         let text = Bytes::from_slice(alloc, command.as_bytes())?;
         let (incoming, text) = Received::read(alloc, text)?.into_parts();
-        is_text(alloc, str::from_utf8(text.as_slice())?, command)?;
-        match incoming {
-            Incoming::Echo(frame) => {
-                let frame = String::from_utf8(frame.into_vec())?;
-                Ok(format!(in alloc; "echo {frame}")?)
-            }
-            Incoming::Message(message) => words_of(alloc, &message),
-        }
+        words_of_taken(alloc, &incoming, &text, command)
     }
 }
 
