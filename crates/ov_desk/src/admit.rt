@@ -72,7 +72,7 @@ where
     let mut workers = started.workers;
     match hall.desk.core.open_session() {
         Ok(session) => {
-            workers.hand(link.reader, link.writer);
+            workers.hand(hall.begun.leave(), link.reader, link.writer);
             let lane = Lane::new(session, started.inbound, started.outbound);
             hall.seat(at, lane, workers);
             Admitted::Opened

@@ -7,6 +7,7 @@ ghost use Rattle.ov_workers.specs.LinkStates.{ends_of};
 ghost use Rattle.ov_desk.specs.Seats.{AreSeats, AreWorkersOf, HaveLink};
 ghost use Rattle.ov_desk.specs.Serving.{IsTended};
 
+use crate::begun::Begun;
 use crate::finish::join_workers;
 use crate::parts::Parts;
 use ov_ends::{Sink, Source};
@@ -32,6 +33,8 @@ pub(crate) struct Hall<K: Keeper, D: Draws, S: Source, W: Sink, L: Ledger> {
     pub parts: Parts<L>,
     /// Whether each session keeps its place, and its workers the ends of their link, until all sessions are over.
     pub keeps: bool,
+    /// That the workers were told to begin.
+    pub begun: Begun<L>,
 }
 
 /// Empties a place, and returns what was in it.

@@ -4,6 +4,7 @@
 #![tactic(auto)]
 
 mod admit;
+mod begun;
 mod fault;
 mod finish;
 mod hall;

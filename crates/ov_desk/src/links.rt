@@ -12,6 +12,7 @@ ghost use Rattle.ov_desk.specs.Opening.{IsOpened};
 ghost use Rattle.ov_desk.specs.Seats.{AreStarted, IsSeatOf};
 ghost use Rattle.ov_desk.specs.Serving.{RefusesLinks, ServesAll};
 
+use crate::begun::Begun;
 use crate::finish::finish_all;
 use crate::hall::Hall;
 use crate::link::{End, Served, Unserved};
@@ -22,7 +23,7 @@ use ov_core::{Core, Session};
 use ov_ends::{Clock, Sink, Source};
 use ov_keeper::Keeper;
 use ov_lanes::{Desk, Lane, ServeFault, has_places, open_sessions, shows_nothing_opened};
-use ov_order::{Bell, Order, Taken};
+use ov_order::{Bell, Leave, Order, Taken};
 use ov_requests::Draws;
 use ov_workers::{Common, Gate, Link, Workers};
 use std::alloc::{AllocError, Global};
@@ -99,9 +100,10 @@ where
     })
 }
 
-/// Hands each link to the workers that were started for its session, in order. Puts the lanes and the workers into lists that
-/// have room for them.
+/// Hands each link to the workers that were started for its session, in order, once these may begin. Puts the lanes and the
+/// workers into lists that have room for them.
 fn seat_all<S, W, L>(
+    leave: &Leave<L>,
     started: VecDeque<Started<S, W, L>>,
     sessions: VecDeque<Session>,
     links: VecDeque<Link<S, W>>,
@@ -112,6 +114,7 @@ where
     S: Source + Drop,
     W: Sink + Drop,
     L: Ledger,
+    requires begun { leave.now ≡ true }
     requires many { (deque_len started ≡ deque_len links) × (deque_len sessions ≡ deque_len links) }
     requires started { (first : ℕ) × AreStarted true first started.items }
     requires lanes { (lanes.old.items ≡ []) × (deque_len links ≤ vec_capacity lanes.old) }
@@ -128,7 +131,7 @@ where
             unreachable!()
         };
         let mut pair = one.workers;
-        pair.hand(link.reader, link.writer);
+        pair.hand(leave, link.reader, link.writer);
         lanes.push_reserved(Some(Lane::new(session, one.inbound, one.outbound)));
         workers.push_reserved(Some(pair));
     }
@@ -160,11 +163,11 @@ where
         (with_clock result.desk.core clock.new) links.items result.ends.items }
     ensures honest { K.is_honest result.desk.core.keeper → K.is_honest core.keeper }
 {
-    common.order.lock(common.rt).begin(true);
-    common.order.wake();
+    let leave = common.order.begin(common.rt, true);
     let mut lanes = opened.lanes;
     let mut workers = opened.workers;
     seat_all(
+        &leave,
         opened.started,
         opened.sessions,
         links,
@@ -177,6 +180,7 @@ where
         accepted: None,
         parts: opened.parts,
         keeps: true,
+        begun: Begun::new(leave),
     };
     run(common, scope, bells, &mut hall, &mut Taken::new(), clock);
     let served = hall.desk;

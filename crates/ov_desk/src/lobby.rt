@@ -8,6 +8,7 @@ ghost use Rattle.ov_workers.specs.declared.arrivals.Arrivals.{Arrivals as SpecAr
 ghost use Rattle.ov_desk.specs.Opening.{AreEmpty};
 ghost use Rattle.ov_desk.specs.Seats.{AreSeats};
 
+use crate::begun::Begun;
 use crate::fault::RefusedLobby;
 use crate::hall::Hall;
 use crate::links::{SHARES, all_bells};
@@ -156,9 +157,7 @@ where
         });
     };
     let mut accepting = accepting;
-    common.order.lock(common.rt).begin(true);
-    common.order.wake();
-    accepting.hand(listener);
+    accepting.hand(hall.begun.leave(), listener);
     run(common, scope, bells, &mut hall, &mut Taken::new(), clock);
     hall.leave_all(common.rt);
     let Hall { desk, accepted, .. } = hall;
@@ -215,7 +214,8 @@ where
     served
 }
 
-/// Serves the listener with the ledger that a type stands for.
+/// Serves the listener with the ledger that a type stands for. Lets all workers begin before any is started, so each begins at
+/// once and waits for what it is handed.
 fn serve_as<R, K, D, L, G, S, W, T, C>(
     rt: &R,
     alloc: Global,
@@ -248,6 +248,7 @@ where
             listener,
         });
     };
+    let leave = room.order.begin(rt, true);
     let mut all = all;
     let noter = Noter::new(LOBBY, all.split_off(1, 0));
     let hall = Hall {
@@ -262,6 +263,7 @@ where
         }),
         parts: Parts::of(all, SHARES - 2),
         keeps: false,
+        begun: Begun::new(leave),
     };
     let door = Door {
         listener,

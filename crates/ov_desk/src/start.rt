@@ -73,8 +73,7 @@ where
     W: Sink + Drop,
     requires { (serial : ℕ) × AreStarted true serial started.items }
 {
-    common.order.lock(common.rt).begin(false);
-    common.order.wake();
+    common.order.begin(common.rt, false);
     let mut started = started;
     while let Some(one) = started.pop_front() {
         let Started { workers, .. } = one;

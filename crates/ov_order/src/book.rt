@@ -2,6 +2,7 @@ ghost use Rattle.std.specs.Prelude.{◌≡◌, ◌+◌, ◌<◌, ◌↔◌, [], 
 ghost use Rattle.std.specs.Prelude.{IfSome, MatchBool, MatchOption};
 ghost use Rattle.ov_order.specs.OrderBook.{noted, HasRoom, Notes, Takes, Says};
 
+use crate::leave::Leave;
 use crate::noter::Noter;
 use crate::taken::Taken;
 use std::alloc::{AllocError, Global};
@@ -109,11 +110,13 @@ impl<L: Ledger> OrderBook<L> {
         self.noted
     }
 
-    /// Says whether the workers may begin.
-    pub fn begin(&mut self, go: bool)
-        ensures { Says go self.old self.new }
+    /// Says whether the workers may begin, and returns that.
+    pub fn begin(&mut self, go: bool) -> Leave<L>
+        ensures says { Says go self.old self.new }
+        ensures leave { result ≡ go }
     {
         self.begun = Some(go);
+        Leave::new(go)
     }
 
     /// Whether the workers may begin, if that was said.

@@ -9,6 +9,7 @@
 mod bell;
 mod book;
 mod items;
+mod leave;
 mod noter;
 mod order;
 mod rings;
@@ -17,6 +18,7 @@ mod taken;
 pub use bell::Bell;
 pub use book::OrderBook;
 pub use items::{Brought, Sent};
+pub use leave::Leave;
 pub use noter::Noter;
 pub use order::Order;
 pub use rings::{inbound_ring, outbound_ring};

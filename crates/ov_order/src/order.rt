@@ -3,6 +3,7 @@ ghost use Rattle.rtrb.specs.Ring.{sent, SameProducer};
 
 use crate::bell::LOOKS;
 use crate::book::OrderBook;
+use crate::leave::Leave;
 use crate::noter::Noter;
 use crate::rings::wait_push;
 use crate::taken::Taken;
@@ -46,7 +47,8 @@ impl<L: Ledger> Order<L> {
         self.book.lock(rt)
     }
 
-    /// Wakes all that wait for a change of the book. Call it after each `note` and `begin`, and best without the lock.
+    /// Wakes all that wait for a change of the book. Call it after each `note` and `begin` of the book, and best without the
+    /// lock.
     pub fn wake(&self) {
         self.changed.notify_all();
     }
@@ -149,8 +151,17 @@ impl<L: Ledger> Order<L> {
         book.next(taken)
     }
 
+    /// Says whether the workers may begin, wakes all that wait for that, and returns it.
+    pub fn begin<R: Wait>(&self, rt: &R, go: bool) -> Leave<L>
+        ensures { result ≡ go }
+    {
+        let leave = self.lock(rt).begin(go);
+        self.wake();
+        leave
+    }
+
     /// Whether the workers may begin, once that was said.
-    pub fn wait_begin<R: Wait>(&self, rt: &R) -> bool {
+    pub fn wait_begin<R: Wait>(&self, rt: &R) -> Leave<L> {
         let guard = self.lock(rt);
         let book = self
             .changed
@@ -158,6 +169,6 @@ impl<L: Ledger> Order<L> {
         let Some(go) = book.begun() else {
             unreachable!()
         };
-        go
+        Leave::new(go)
     }
 }

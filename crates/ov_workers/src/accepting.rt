@@ -1,4 +1,4 @@
-ghost use Rattle.std.specs.Prelude.{◌≡◌, ◌<◌, [], ◌∷◌, Some, IfSome};
+ghost use Rattle.std.specs.Prelude.{◌≡◌, ◌<◌, [], ◌∷◌, true, Some, IfSome};
 ghost use Rattle.rtrb.specs.Ring.{sent, known_free, received, IsPair, SameConsumer, SameProducer};
 ghost use Rattle.ov_workers.specs.Accepting.{BringsLinks, HaveCome, links_in};
 ghost use Rattle.ov_workers.specs.LinkStates.{ends_of};
@@ -10,7 +10,7 @@ use crate::gate::Gate;
 use crate::hand::{HandRing, take_handed};
 use crate::listen::Listen;
 use ov_ends::{Sink, Source};
-use ov_order::Noter;
+use ov_order::{Leave, Noter};
 use rtrb::{Consumer, Producer};
 use std::snapshot::Snapshot;
 use std::sync::Wait;
@@ -75,9 +75,9 @@ where
     ensures brings { BringsLinks (ends_of S.Source W.Sink) T.gives (received result.hand)
         (links_in (sent result.ring)) }
 {
-    let _may_begin = common.order.wait_begin(common.rt);
+    let leave = common.order.wait_begin(common.rt);
     let mut hand = hand;
-    let ring = match take_handed(common.rt, &mut hand) {
+    let ring = match take_handed(common.rt, &leave, &mut hand) {
         Some(listener) => accept_worker(common, listener, ring, noter),
         None => ring,
     };
@@ -132,9 +132,10 @@ where
 }
 
 impl<S: Source + Drop, W: Sink + Drop, T: Listen<S, W> + Drop> Accepting<S, W, T> {
-    /// Hands the thread its listener, whose links it brings the desk.
-    pub fn hand(&mut self, listener: T)
-        requires { sent self.old.hand ≡ [] }
+    /// Hands the thread its listener, whose links it brings the desk. Asks for the leave of `begin(true)`.
+    pub fn hand<L: Ledger>(&mut self, _leave: &Leave<L>, listener: T)
+        requires begun { _leave.now ≡ true }
+        requires unhanded { sent self.old.hand ≡ [] }
         ensures handed { sent self.new.hand ≡ Some listener ∷ [] }
         ensures promise { self.new.handle.promise ≡ self.old.handle.promise }
     {

@@ -2,9 +2,11 @@ ghost use Rattle.std.specs.Prelude.{◌≡◌, [], ◌∷◌, ◌++◌};
 ghost use Rattle.rtrb.specs.Ring.{sent, known_free, received, IsPair, SameConsumer};
 ghost use Rattle.ov_workers.specs.Handing.{kept_if};
 
+use ov_order::Leave;
 use rtrb::{Consumer, Producer, RingBuffer};
 use std::alloc::{AllocError, Global};
 use std::sync::Wait;
+use std::sync::ledger::Ledger;
 use std::thread;
 
 /// A new ring of one item, through which a worker's thread is handed its end of a link, or `None` if there is no work.
@@ -48,10 +50,14 @@ impl<S: Drop, W: Drop> Hands<S, W> {
     }
 }
 
-/// Takes what is handed, once it is there. Waits forever if nothing is.
+/// Takes what is handed, once it is there. Waits forever if nothing is. Asks for the leave that `wait_begin` returned.
 ///
 /// It polls, yielding after each look, so call it only shortly before something is handed.
-pub fn take_handed<R: Wait, T: Drop>(rt: &R, hand: &mut Consumer<Option<T>>) -> Option<T>
+pub fn take_handed<R: Wait, L: Ledger, T: Drop>(
+    rt: &R,
+    _leave: &Leave<L>,
+    hand: &mut Consumer<Option<T>>,
+) -> Option<T>
     ensures hand { SameConsumer hand.old hand.new }
     ensures taken { received hand.new ≡ received hand.old ++ result ∷ [] }
 {

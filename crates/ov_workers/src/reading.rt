@@ -1,4 +1,4 @@
-ghost use Rattle.std.specs.Prelude.{◌≡◌, ◌<◌, [], ◌∷◌, Some, IfSome};
+ghost use Rattle.std.specs.Prelude.{◌≡◌, ◌<◌, [], ◌∷◌, true, Some, IfSome};
 ghost use Rattle.rtrb.specs.Ring.{sent, known_free, received, IsPair, SameConsumer};
 ghost use Rattle.ov_ends.specs.States.{source_of};
 ghost use Rattle.ov_workers.specs.Handing.{ReadsLink, ReadsHanded};
@@ -10,6 +10,7 @@ use crate::hand::{HandRing, keep_or_drop, take_handed};
 use crate::inlet::Inlet;
 use crate::reader::{ReadEnd, read_worker};
 use ov_ends::Source;
+use ov_order::Leave;
 use rtrb::{Consumer, Producer};
 use std::snapshot::Snapshot;
 use std::sync::Wait;
@@ -106,9 +107,9 @@ fn read_handed<R: Wait, L: Ledger, G: Gate, S: Source + Drop>(
     ensures handed { ReadsHanded (source_of S.Source) keeps inlet (received result.hand)
         result.left }
 {
-    let _may_begin = common.order.wait_begin(common.rt);
+    let leave = common.order.wait_begin(common.rt);
     let mut hand = hand;
-    let left = match take_handed(common.rt, &mut hand) {
+    let left = match take_handed(common.rt, &leave, &mut hand) {
         Some(reader) => Some(read_link(common, keeps, reader, inlet)),
         None => None,
     };
@@ -165,9 +166,10 @@ where
 }
 
 impl<S: Source + Drop, L: Ledger> Reading<S, L> {
-    /// Hands the thread its reader, which it reads to the end.
-    pub fn hand(&mut self, reader: S)
-        requires { sent self.old.hand ≡ [] }
+    /// Hands the thread its reader, which it reads to the end. Asks for the leave of `begin(true)`.
+    pub fn hand(&mut self, _leave: &Leave<L>, reader: S)
+        requires begun { _leave.now ≡ true }
+        requires unhanded { sent self.old.hand ≡ [] }
         ensures handed { sent self.new.hand ≡ Some reader ∷ [] }
         ensures promise { self.new.handle.promise ≡ self.old.handle.promise }
     {

@@ -1,4 +1,4 @@
-ghost use Rattle.std.specs.Prelude.{◌≡◌, [], ◌∷◌, Some, IfSome};
+ghost use Rattle.std.specs.Prelude.{◌≡◌, [], ◌∷◌, true, Some, IfSome};
 ghost use Rattle.rtrb.specs.Ring.{sent, received};
 ghost use Rattle.ov_ends.specs.States.{source_of, sink_of};
 ghost use Rattle.ov_workers.specs.Handing.{ReadsLink, WritesLink};
@@ -10,7 +10,7 @@ use crate::inlet::Inlet;
 use crate::reading::{ReadLeft, Reading, start_reader};
 use crate::writing::{WriteLeft, Writing, start_writer};
 use ov_ends::{Sink, Source};
-use ov_order::{Bell, Sent};
+use ov_order::{Bell, Leave, Sent};
 use rtrb::Consumer;
 use std::sync::Wait;
 use std::sync::ledger::Ledger;
@@ -85,16 +85,18 @@ fn say_no_begin<R: Wait, L: Ledger, G>(common: Common<'_, R, L, G>) {
 }
 
 impl<S: Source + Drop, W: Sink + Drop, L: Ledger> Workers<S, W, L> {
-    /// Hands the threads the two ends of a link.
-    pub fn hand(&mut self, reader: S, writer: W)
-        requires { (sent self.old.reading.hand ≡ []) × (sent self.old.writing.hand ≡ []) }
+    /// Hands the threads the two ends of a link. Asks for the leave of `begin(true)`, of an order over the same ledger.
+    pub fn hand(&mut self, leave: &Leave<L>, reader: S, writer: W)
+        requires begun { leave.now ≡ true }
+        requires unhanded { (sent self.old.reading.hand ≡ [])
+            × (sent self.old.writing.hand ≡ []) }
         ensures handed { (sent self.new.reading.hand ≡ Some reader ∷ [])
             × (sent self.new.writing.hand ≡ Some writer ∷ []) }
         ensures promises { (self.new.reading.handle.promise ≡ self.old.reading.handle.promise)
             × (self.new.writing.handle.promise ≡ self.old.writing.handle.promise) }
     {
-        self.reading.hand(reader);
-        self.writing.hand(writer);
+        self.reading.hand(leave, reader);
+        self.writing.hand(leave, writer);
     }
 
     /// Tells the threads that there is no link for them, and joins them.

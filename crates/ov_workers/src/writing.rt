@@ -1,4 +1,4 @@
-ghost use Rattle.std.specs.Prelude.{◌≡◌, ◌<◌, [], ◌∷◌, Some, IfSome};
+ghost use Rattle.std.specs.Prelude.{◌≡◌, ◌<◌, [], ◌∷◌, true, Some, IfSome};
 ghost use Rattle.rtrb.specs.Ring.{sent, known_free, received, IsPair, SameConsumer};
 ghost use Rattle.ov_ends.specs.States.{sink_of};
 ghost use Rattle.ov_workers.specs.Handing.{WritesLink, WritesHanded};
@@ -8,7 +8,7 @@ use crate::gate::Gate;
 use crate::hand::{HandRing, keep_or_drop, take_handed};
 use crate::writer::{WriteEnd, write_worker};
 use ov_ends::Sink;
-use ov_order::{Bell, Sent};
+use ov_order::{Bell, Leave, Sent};
 use rtrb::{Consumer, Producer};
 use std::snapshot::Snapshot;
 use std::sync::Wait;
@@ -109,9 +109,9 @@ fn write_handed<R: Wait, L: Ledger, G: Gate, W: Sink + Drop>(
     ensures hand { SameConsumer hand result.hand }
     ensures handed { WritesHanded (sink_of W.Sink) keeps ring (received result.hand) result.left }
 {
-    let _may_begin = common.order.wait_begin(common.rt);
+    let leave = common.order.wait_begin(common.rt);
     let mut hand = hand;
-    let left = match take_handed(common.rt, &mut hand) {
+    let left = match take_handed(common.rt, &leave, &mut hand) {
         Some(writer) => Some(write_link(common, bell, keeps, serial, writer, ring)),
         None => None,
     };
@@ -171,9 +171,10 @@ where
 }
 
 impl<W: Sink + Drop> Writing<W> {
-    /// Hands the thread its writer, to which it writes up to the end mark.
-    pub fn hand(&mut self, writer: W)
-        requires { sent self.old.hand ≡ [] }
+    /// Hands the thread its writer, to which it writes up to the end mark. Asks for the leave of `begin(true)`.
+    pub fn hand<L: Ledger>(&mut self, _leave: &Leave<L>, writer: W)
+        requires begun { _leave.now ≡ true }
+        requires unhanded { sent self.old.hand ≡ [] }
         ensures handed { sent self.new.hand ≡ Some writer ∷ [] }
         ensures promise { self.new.handle.promise ≡ self.old.handle.promise }
     {

@@ -92,7 +92,7 @@ fn answered_by<R: Wait, L: Ledger>(
     requires { (share.parts ≡ L.parts) × (share.parts ≡ 1) }
 {
     begin(rt, order, false);
-    let go = order.wait_begin(rt);
+    let go = order.wait_begin(rt).may_begin();
     let (mut reader, mut fifth) = (reader, Noter::new(5, share));
     order.bring(rt, &mut reader, &mut fifth, Brought::Message(1));
     let mut sixth = Noter::new(6, fifth.into_share());

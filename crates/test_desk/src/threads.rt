@@ -103,8 +103,8 @@ fn serve_in<'s, E, R: Threads + Wait + Sync, L: Ledger + Send + Sync + 's>(
         return None;
     };
     let mut workers = workers;
-    workers.hand(reader, writer);
-    begin(common.rt, common.order, true);
+    let leave = begin(common.rt, common.order, true);
+    workers.hand(&leave, reader, writer);
     send(common.rt, common.alloc, bell, flushed, out);
     let (read, wrote) = workers.join(common.rt);
     served_of(read, wrote)

@@ -2,7 +2,7 @@
 
 ghost use Rattle.std.specs.Prelude.{◌≡◌};
 
-use ov_order::{Noter, Order, Taken};
+use ov_order::{Leave, Noter, Order, Taken};
 use std::alloc::{AllocError, Global};
 use std::sync::Wait;
 use std::sync::ledger::{Ledger, Share};
@@ -28,9 +28,10 @@ pub(crate) fn tells_bytes(
 }
 
 /// Says whether the workers may begin.
-pub(crate) fn begin<R: Wait, L: Ledger>(rt: &R, order: &Order<L>, go: bool) {
-    order.lock(rt).begin(go);
-    order.wake();
+pub(crate) fn begin<R: Wait, L: Ledger>(rt: &R, order: &Order<L>, go: bool) -> Leave<L>
+    ensures { result ≡ go }
+{
+    order.begin(rt, go)
 }
 
 /// Makes a note, and returns whether there was room for it.

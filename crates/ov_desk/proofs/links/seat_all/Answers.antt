@@ -6,8 +6,8 @@ use Rattle.ov_desk.specs.Seats.{AreStarted, IsSeatOf}
 use Rattle.ov_desk.proofs.Seats.{first_started, first_session, started_works, started_new, seat_more}
 use Rattle.ov_desk.proofs.links.seat_all.Goals as goal
 
-pub hand-requires : goal.hand-requires
-hand-requires g c = (first_started true c.loop-link.invariant.started.0 c.loop-link.started.items c.pop_front-in-Some.new.self.items c.in-Some-Some.one c.in-Some-Some.ensures.items c.loop-link.invariant.started.1).0.await
+pub hand-requires-clause-unhanded : goal.hand-requires-clause-unhanded
+hand-requires-clause-unhanded g c = (first_started true c.loop-link.invariant.started.0 c.loop-link.started.items c.pop_front-in-Some.new.self.items c.in-Some-Some.one c.in-Some-Some.ensures.items c.loop-link.invariant.started.1).0.await
 
 pub loop-link-preserved : goal.loop-link-preserved
 loop-link-preserved g c =
