@@ -6,7 +6,7 @@ use Rattle.ov_db.specs.declared.fault.RefusedOpen.{RefusedOpen}
 use Rattle.ov_store.specs.Finding.{new_contents}
 use Rattle.ov_words.specs.declared.ending.Ending.{Ending}
 use Rattle.ov_words.specs.Causes.{by_open}
-use Rattle.ov_pipes.specs.Pipes.{PipesState}
+use Rattle.ov_listen.specs.Pipes.{PipesState}
 use Rattle.ov_listen.specs.declared.endpoint.Ended.{Ended}
 use Rattle.ov_listen.specs.declared.file.FileEnded.{FileEnded}
 use Rattle.ov_listen.specs.declared.endpoint.Offer.{Offer}

@@ -14,7 +14,7 @@ use Rattle.ov_store.specs.StoreState.{MayFind, StoreState}
 use Rattle.ov_store.specs.Whole.{WasWhole}
 use Rattle.ov_words.specs.declared.ending.Ending.{Ending}
 use Rattle.ov_words.specs.Causes.{by_keeping, by_open}
-use Rattle.ov_pipes.specs.Pipes.{PipesState}
+use Rattle.ov_listen.specs.Pipes.{PipesState}
 use Rattle.ov_listen.specs.declared.endpoint.Ended.{Ended}
 use Rattle.ov_listen.specs.declared.endpoint.Offer.{Offer}
 use Rattle.ov_listen.specs.declared.database.Service.{Service}

@@ -1,3 +1,6 @@
+pub mod Clock
+pub mod Pipes
+pub mod Session
 pub mod Endings
 pub mod Connections
 pub mod Environment

@@ -8,8 +8,8 @@ use Rattle.ov_core.specs.Leaving.{LeavesItsOwn}
 use Rattle.ov_core.specs.Opening.{OpensCore, RefusesCore}
 use Rattle.ov_serve.specs.Serving.{ServerState}
 use Rattle.ov_words.specs.declared.ending.Ending.{Ending}
-use Rattle.ov_pipes.specs.Pipes.{PipesState}
-use Rattle.ov_pipes.specs.Session.{EndsSession, server_over}
+use Rattle.ov_listen.specs.Pipes.{PipesState}
+use Rattle.ov_listen.specs.Session.{EndsSession, server_over}
 use Rattle.ov_listen.specs.declared.endpoint.Ended.{Ended}
 use Rattle.ov_listen.specs.declared.endpoint.Offer.{Offer}
 use Rattle.ov_listen.specs.declared.endpoint.Endpoint.{Endpoint}

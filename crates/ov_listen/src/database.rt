@@ -2,20 +2,20 @@
 
 ghost use Rattle.std.specs.Prelude.{◌≡◌, IfNone, IfSome};
 ghost use Rattle.sqlite_wal.specs.Files.{image_at};
-ghost use Rattle.ov_pipes.specs.Pipes.{pipes_state};
+ghost use Rattle.ov_listen.specs.Pipes.{pipes_state};
 ghost use Rattle.ov_listen.specs.Databases.{EndsMemory, IsInFile, IsInMemory, ending_of};
 ghost use Rattle.ov_listen.specs.Files.{EndsFile};
 ghost use Rattle.ov_listen.specs.Environment.{environment_of};
 
 use crate::endpoint::{Ended, Endpoint, Offer, serve_offer};
 use crate::file::{FileEnded, serve_file};
+use crate::pipes::Pipes;
 use crate::system::System;
 use ov_base::Text;
 use ov_core::Schema;
 use ov_db::RefusedOpen;
 use ov_ends::{Clock, Sink, Source};
 use ov_keeper::{Keeper, VolatileKeeper};
-use ov_pipes::Pipes;
 use ov_requests::Draws;
 use ov_store::Store;
 use ov_words::{Ending, ending_of_open};

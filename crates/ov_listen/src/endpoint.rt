@@ -1,12 +1,14 @@
 //! Where sessions of the database that a keeper holds are served.
 
 ghost use Rattle.std.specs.Prelude.{◌≡◌, IfOk, IfErr, OnErr};
-ghost use Rattle.ov_pipes.specs.Pipes.{pipes_state};
-ghost use Rattle.ov_pipes.specs.Session.{server_over};
+ghost use Rattle.ov_listen.specs.Pipes.{pipes_state};
+ghost use Rattle.ov_listen.specs.Session.{server_over};
 ghost use Rattle.ov_listen.specs.Environment.{environment_of};
 ghost use Rattle.ov_listen.specs.Offers.{EndsAt, RefusesOffer, ServesOffer};
 
 use crate::address::serve_at;
+use crate::pipes::Pipes;
+use crate::session::serve_pipes;
 use crate::system::System;
 use ov_base::Text;
 use ov_core::{Core, Schema};
@@ -14,7 +16,6 @@ use ov_db::RefusedOpen;
 use ov_desk::End;
 use ov_ends::{Clock, Sink, Source};
 use ov_keeper::Keeper;
-use ov_pipes::{Pipes, serve_pipes};
 use ov_requests::Draws;
 use ov_sockets::{ClientReader, ClientWriter};
 use ov_words::Ending;

@@ -1,16 +1,16 @@
 //! Sessions of the database in a file.
 ghost use Rattle.sqlite_wal.specs.Files.{image_at};
-ghost use Rattle.ov_pipes.specs.Pipes.{pipes_state};
+ghost use Rattle.ov_listen.specs.Pipes.{pipes_state};
 ghost use Rattle.ov_listen.specs.Files.{EndsFile, EndsStore};
 ghost use Rattle.ov_listen.specs.Environment.{environment_of};
 
 use crate::database::Service;
 use crate::endings::closes_file;
 use crate::endpoint::{Ended, Offer, serve_offer};
+use crate::pipes::Pipes;
 use crate::system::System;
 use ov_ends::{Clock, Sink, Source};
 use ov_keeper::{KeepFault, Keeper};
-use ov_pipes::Pipes;
 use ov_requests::Draws;
 use ov_store::{Store, close_in_file, store_in_file};
 use ov_words::{Ending, ending_of_keeping, ending_of_open};

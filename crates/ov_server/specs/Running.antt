@@ -7,7 +7,7 @@ use Rattle.sqlite_wal.specs.Recovery.{Image}
 use Rattle.ov_store.specs.StoreState.{StoreState}
 use Rattle.ov_words.specs.declared.settings.Settings.{Settings}
 use Rattle.ov_words.specs.Words.{settings_of}
-use Rattle.ov_pipes.specs.Pipes.{PipesState}
+use Rattle.ov_listen.specs.Pipes.{PipesState}
 use Rattle.ov_listen.specs.declared.endpoint.Endpoint.{Endpoint}
 use Rattle.ov_listen.specs.declared.endpoint.Endpoint.TheVariants.{Pipes, Address}
 use Rattle.ov_listen.specs.declared.database.Service.{Service}

@@ -7,7 +7,7 @@ mod draws;
 mod start;
 
 use crate::start::{run, words_of};
-use ov_pipes::pipes_over;
+use ov_listen::pipes_over;
 use ov_words::{Ending, error_line_of, status_of};
 use sqlite::Unknown;
 use std::process::ExitCode;

@@ -3,7 +3,7 @@
 ghost use Rattle.std.specs.Prelude.{◌≡◌, ◌≢◌, ◌⊎◌, Err, IfOk, IfErr, IfNone, None, OnErr, map};
 ghost use Rattle.sqlite_wal.specs.Files.{image_at};
 ghost use Rattle.ov_words.specs.Words.{settings_of};
-ghost use Rattle.ov_pipes.specs.Pipes.{pipes_state};
+ghost use Rattle.ov_listen.specs.Pipes.{pipes_state};
 ghost use Rattle.ov_listen.specs.Environment.{environment_of};
 ghost use Rattle.ov_server.specs.Running.{IsServiceAsked, RunsDatabase, endpoint_of};
 ghost use Rattle.ov_server.specs.Schemas.{IsBuiltIn};
@@ -14,8 +14,7 @@ use ov_base::Text;
 use ov_core::Schema;
 use ov_ends::{Clock, Sink, Source};
 use ov_keeper::{Keeper, VolatileKeeper};
-use ov_listen::{DatabaseEnded, Endpoint, Service, serve_database};
-use ov_pipes::Pipes;
+use ov_listen::{DatabaseEnded, Endpoint, Pipes, Service, serve_database};
 use ov_requests::Draws;
 use ov_schema::text_of;
 use ov_schema_text::read_schema;

@@ -1,5 +1,5 @@
 use ov_ends::Clock;
-use ov_pipes::MonotonicClock;
+use ov_listen::MonotonicClock;
 use std::test::Fail;
 use std::thread;
 use std::time::Duration;

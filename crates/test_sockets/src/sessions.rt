@@ -4,8 +4,10 @@ use crate::addresses::address_of;
 use ov_base::Text;
 use ov_desk::End;
 use ov_ends::{Clock as MomentClock, Sink, Source};
-use ov_listen::{DatabaseEnded, Endpoint, Service, serve_at, serve_connections, serve_memory};
-use ov_pipes::{MonotonicClock, Pipes, pipes_over};
+use ov_listen::{
+    DatabaseEnded, Endpoint, MonotonicClock, Pipes, Service, pipes_over, serve_at,
+    serve_connections, serve_memory,
+};
 use ov_schema::text_of;
 use ov_sockets::{ClientReader, ClientWriter, accept_all, listen};
 use ov_words::Ending;

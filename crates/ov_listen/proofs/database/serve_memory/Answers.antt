@@ -1,7 +1,7 @@
 use Rattle.std.proofs.Common.{◌≡◌, IfOk, IfErr, refl, ap}
 use Rattle.std.specs.Prelude.{Result, Ok, Err, OnErr}
 use Rattle.ov_db.specs.declared.fault.RefusedOpen.{RefusedOpen}
-use Rattle.ov_pipes.specs.Pipes.{PipesState, pipes_state}
+use Rattle.ov_listen.specs.Pipes.{PipesState, pipes_state}
 use Rattle.ov_listen.specs.declared.database.Service.{Service}
 use Rattle.ov_listen.specs.declared.endpoint.Ended.{Ended}
 use Rattle.ov_listen.specs.Databases.{EndsMemory, IsNewKeeper, offer_of}

@@ -8,7 +8,7 @@ use Rattle.ov_core.specs.Stepping.{RefusesStep}
 use Rattle.ov_serve.specs.Serving.{ServerState, ServesSession}
 use Rattle.ov_words.specs.declared.ending.Ending.{Ending}
 use Rattle.ov_words.specs.Causes.{by_step, by_cause}
-use Rattle.ov_pipes.specs.Pipes.{PipesState}
+use Rattle.ov_listen.specs.Pipes.{PipesState}
 
 -- a core with pipes
 abbrev pub server_over : {K D C : Type 0} → CoreState K D → PipesState C → ServerState K D C

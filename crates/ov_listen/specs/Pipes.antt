@@ -2,7 +2,7 @@
 use Rattle.ov_ends.specs.declared.ends.Source as source
 use Rattle.ov_ends.specs.declared.ends.Sink as sink
 use Rattle.ov_ends.specs.States.{SourceState, source_of, SinkState, sink_of}
-use Rattle.ov_pipes.specs.declared.pipes.Pipes.{Pipes}
+use Rattle.ov_listen.specs.declared.pipes.Pipes.{Pipes}
 
 -- a reader, a writer and a clock
 pub record PipesState (C : Type 0) : Type 0 where

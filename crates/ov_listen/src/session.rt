@@ -1,6 +1,6 @@
 ghost use Rattle.std.specs.Prelude.{◌≢◌};
-ghost use Rattle.ov_pipes.specs.Pipes.{pipes_state};
-ghost use Rattle.ov_pipes.specs.Session.{EndsSession, server_over};
+ghost use Rattle.ov_listen.specs.Pipes.{pipes_state};
+ghost use Rattle.ov_listen.specs.Session.{EndsSession, server_over};
 
 use crate::pipes::Pipes;
 use ov_core::Core;

@@ -1,5 +1,5 @@
 ghost use Rattle.std.specs.Prelude.{◌≡◌};
-ghost use Rattle.ov_pipes.specs.Clock.{milliseconds_between};
+ghost use Rattle.ov_listen.specs.Clock.{milliseconds_between};
 
 use ov_ends::Clock;
 use std::rt::Clock as SystemClock;
@@ -44,7 +44,7 @@ fn milliseconds_between(start: Option<Instant>, now: Option<Instant>) -> u64
 
 impl<'a, R: SystemClock> Clock for MonotonicClock<'a, R> {
     ghost use Rattle.std.specs.Prelude.{◌≡◌, max};
-    ghost use Rattle.ov_pipes.specs.Clock.{milliseconds_between};
+    ghost use Rattle.ov_listen.specs.Clock.{milliseconds_between};
 
     // The moment is in milliseconds since the start, by the last reading, and never goes back.
     ghost tells = { λ old moment new.

@@ -1,3 +1,0 @@
-pub mod Clock
-pub mod Pipes
-pub mod Session
