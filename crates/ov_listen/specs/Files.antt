@@ -1,5 +1,5 @@
 -- What comes of the database in a file.
-use Rattle.std.specs.Prelude.{◌≡◌, ◌⊎◌, ℕ, List, Option, None, Result, Ok, Err, IfOk, MatchBool, MatchResult, IsSomeAnd}
+use Rattle.std.specs.Prelude.{◌≡◌, ◌⊎◌, ℕ, List, Option, None, Some, Result, Ok, Err, IfOk, MatchOption, MatchResult, IsSomeAnd, if◌then◌else◌}
 use Rattle.sqlite.specs.Files.{file_state, over_files}
 use Rattle.sqlite.specs.State.{HasCleanDisk}
 use Rattle.sqlite_disk.specs.declared.Disk as disk
@@ -33,6 +33,11 @@ abbrev pub ending_of_store : {K D : Type 0} → StoreEnded K D → Ending
 ending_of_store (Ok ended) = ended.ending
 ending_of_store (Err told) = told
 
+-- the keeper whose file is to be closed: after these endings that of the core
+abbrev pub keeper_to_close : {K D : Type 0} → StoreEnded K D → Option K
+keeper_to_close (Ok ended) = if closes_file ended.ending then Some ended.core.keeper else None
+keeper_to_close (Err told) = None
+
 module _ {K D C : Type 0} (e : Environment K D C) where
   -- A store that was opened came to that with its core; or no core was opened over it, or there was no store, the ending is
   -- that of the fault, and nothing is read or written.
@@ -42,6 +47,13 @@ module _ {K D C : Type 0} (e : Environment K D C) where
   EndsStore (Err fault) offer from (Ok ended) to = ⊥
   EndsStore (Err fault) offer from (Err told) to = (to ≡ from) × (told ≡ by_keeping fault)
 
+  -- The sessions of a store ended so, and its keeper is kept if its file is to be closed after that.
+  pub record EndsKept (store : Result K KeepFault) (offer : Offer D) (from : PipesState C) (ending : Ending) (keeper : Option K) (to : PipesState C) : Type 0 where
+    pub ended : StoreEnded K D
+    pub ends : EndsStore store offer from ended to
+    pub told : ending ≡ ending_of_store ended
+    pub kept : keeper ≡ keeper_to_close ended
+
 module _ {A : Type 0} {g : disk.Ghosts A} where
   -- the store of what the files held, or a new one if they had no table; or why there is none
   pub record IsOfFiles (image : Image) (text : List ℕ) (store : Result (StoreState (FileStore A g)) KeepFault) : Type 0 where
@@ -50,12 +62,14 @@ module _ {A : Type 0} {g : disk.Ghosts A} where
     pub fresh : IfOk store (λ s. s.failures ≡ 0)
     pub refused : IsFileRefused image text store
 
-  -- After these endings the store of the core is closed: then the database file was whole, or there is a fault. A store
-  -- without a core is not closed.
+  -- A store that was kept is closed: the database file was whole, or there is a fault. Without one nothing is closed.
+  abbrev pub ClosesKept : Option (StoreState (FileStore A g)) → Option (Result Unit KeepFault) → Type 0
+  ClosesKept keeper closing = MatchOption keeper (closing ≡ None)
+      (λ k. IsSomeAnd closing (λ answer. MatchResult answer (λ _. WasWhole k) IsLoadFault))
+
+  -- After these endings the store of the core is closed. A store without a core is not closed.
   abbrev pub IsClosed : {D : Type 0} → StoreEnded (StoreState (FileStore A g)) D → Option (Result Unit KeepFault) → Type 0
-  IsClosed (Ok ended) closing = MatchBool (closes_file ended.ending)
-      (IsSomeAnd closing (λ answer. MatchResult answer (λ _. WasWhole ended.core.keeper) IsLoadFault)) (closing ≡ None)
-  IsClosed (Err told) closing = closing ≡ None
+  IsClosed ended closing = ClosesKept (keeper_to_close ended) closing
 
   -- The files had a store or not, and its sessions came to that. It was closed if it was to be.
   pub record EndsFile {D C : Type 0} (e : Environment (StoreState (FileStore A g)) D C) (image : Image) (service : Service D) (from : PipesState C) (file : FileEnded) (to : PipesState C) : Type 0 where

@@ -1,7 +1,7 @@
 //! Sessions of the database in a file.
 ghost use Rattle.sqlite_wal.specs.Files.{image_at};
 ghost use Rattle.ov_listen.specs.Pipes.{pipes_state};
-ghost use Rattle.ov_listen.specs.Files.{EndsFile, EndsStore};
+ghost use Rattle.ov_listen.specs.Files.{ClosesKept, EndsFile, EndsKept, EndsStore};
 ghost use Rattle.ov_listen.specs.Environment.{environment_of};
 
 use crate::database::Service;
@@ -54,6 +54,68 @@ where
     }
 }
 
+/// How the sessions of a store ended, and the store if its file is to be closed after that.
+#[derive(Drop)]
+struct Kept<K> {
+    ending: Ending,
+    keeper: Option<K>,
+}
+
+/// Serves sessions of a store, and keeps the store if its file is to be closed. Else it is dropped, after the connections.
+fn serve_kept<R, K, D, S, W, C>(
+    rt: &R,
+    alloc: Global,
+    store: Result<K, KeepFault>,
+    offer: Offer<D>,
+    pipes: &mut Pipes<S, W, C>,
+) -> Kept<K>
+where
+    R: System,
+    K: Keeper + Drop,
+    D: Draws + Drop,
+    S: Source,
+    W: Sink,
+    C: Clock,
+    ensures { EndsKept (environment_of K.Keeper D.draws C.tells) store offer
+        (pipes_state S.Source W.Sink pipes.old) result.ending result.keeper
+        (pipes_state S.Source W.Sink pipes.new) }
+{
+    match serve_store(rt, alloc, store, offer, pipes) {
+        Ok(
+            Ended {
+                ending,
+                core,
+                ends: _,
+            },
+        ) => {
+            let keeper = if closes_file(ending) {
+                Some(core.into_keeper())
+            } else {
+                None
+            };
+            Kept { ending, keeper }
+        }
+        Err(ending) => Kept {
+            ending,
+            keeper: None,
+        },
+    }
+}
+
+/// Closes the file of a store that was kept.
+fn close_kept<T: Start>(
+    host: &HostRuntime,
+    path: &str,
+    keeper: Option<Store<FileStore<FileFrom<T>>>>,
+) -> Option<Result<(), KeepFault>>
+    ensures { ClosesKept keeper result }
+{
+    match keeper {
+        Some(keeper) => Some(close_in_file(host, path, keeper)),
+        None => None,
+    }
+}
+
 /// Serves sessions of the database in the file at a path, as `serve_offer` does. `start` stands for what the file and its log
 /// held. The connections are closed once all sessions have ended. If the sessions ended by their input or by their streams,
 /// or no client was served for a cause other than memory, the file is then closed: it holds the whole database, with no log
@@ -93,25 +155,7 @@ where
         draws,
         endpoint,
     };
-    let Ended {
-        ending,
-        core,
-        ends: _,
-    } = match serve_store(rt, host.alloc(), store, offer, pipes) {
-        Ok(ended) => ended,
-        Err(ending) => {
-            return FileEnded {
-                ending,
-                closing: None,
-            };
-        }
-    };
-    if !closes_file(ending) {
-        return FileEnded {
-            ending,
-            closing: None,
-        };
-    }
-    let closing = Some(close_in_file(host, path, core.into_keeper()));
+    let Kept { ending, keeper } = serve_kept(rt, host.alloc(), store, offer, pipes);
+    let closing = close_kept(host, path, keeper);
     FileEnded { ending, closing }
 }
