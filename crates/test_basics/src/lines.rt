@@ -2,7 +2,7 @@ use crate::tree_texts::value;
 use ov_base::{Bytes, Text};
 use ov_keeper::{Cell, CellLine, Change, Line};
 use serde_json::Value;
-use std::alloc::Global;
+use std::alloc::{AllocError, Global};
 use std::test::Fail;
 use uuid::Uuid;
 
@@ -11,13 +11,22 @@ pub fn number(text: &str) -> Result<Uuid, Fail> {
     Ok(Uuid::from_u128(text.parse::<u128>()?))
 }
 
-/// The line of a text, as format 1 has it: its table, its identifier and version as numbers, and its body.
-pub fn line_of(alloc: Global, text: &str) -> Result<Line, Fail> {
-    let (table, rest) = text.split_once(" ").ok_or("no identifier")?;
-    let (id, rest) = rest.split_once(" ").ok_or("no version")?;
-    let (version, body) = rest.split_once(" ").ok_or("no body")?;
-    let id = number(id)?;
-    let version = number(version)?;
+/// The parts of a text before and after its first space. Fails with these words if it has none.
+fn parted<'a>(text: &'a str, lack: &'static str) -> Result<(&'a str, &'a str), Fail> {
+    match text.split_once(" ") {
+        Some(parts) => Ok(parts),
+        None => Err(Fail::new(lack)),
+    }
+}
+
+/// The line with these parts.
+fn line_with(
+    alloc: Global,
+    table: &str,
+    id: Uuid,
+    version: Uuid,
+    body: &str,
+) -> Result<Line, AllocError> {
     let body = Bytes::from_slice(alloc, body.as_bytes())?;
     Ok(Line {
         table: Text::from_str(alloc, table)?,
@@ -25,6 +34,16 @@ pub fn line_of(alloc: Global, text: &str) -> Result<Line, Fail> {
         version,
         body,
     })
+}
+
+/// The line of a text, as format 1 has it: its table, its identifier and version as numbers, and its body.
+pub fn line_of(alloc: Global, text: &str) -> Result<Line, Fail> {
+    let (table, rest) = parted(text, "no identifier")?;
+    let (id, rest) = parted(rest, "no version")?;
+    let (version, body) = parted(rest, "no body")?;
+    let id = number(id)?;
+    let version = number(version)?;
+    Ok(line_with(alloc, table, id, version, body)?)
 }
 
 /// The lines of a text, one in a line.
@@ -50,9 +69,9 @@ fn cell_of_member(alloc: Global, name: &str, member: &Value) -> Result<Cell, Fai
     cell(alloc, name, body.as_slice())
 }
 
-/// A cell for each member of the object with this text.
-pub fn cells_of(alloc: Global, text: &str) -> Result<Vec<Cell>, Fail> {
-    let Value::Object(members) = value(alloc, text)? else {
+/// A cell for each member of an object.
+fn cells_of_object(alloc: Global, object: &Value) -> Result<Vec<Cell>, Fail> {
+    let Value::Object(members) = object else {
         return Err(Fail::new("no object"));
     };
     let mut cells = Vec::new(alloc);
@@ -60,6 +79,12 @@ pub fn cells_of(alloc: Global, text: &str) -> Result<Vec<Cell>, Fail> {
         cells.push(cell_of_member(alloc, name.as_str(), member)?)?;
     }
     Ok(cells)
+}
+
+/// A cell for each member of the object with this text.
+pub fn cells_of(alloc: Global, text: &str) -> Result<Vec<Cell>, Fail> {
+    let object = value(alloc, text)?;
+    cells_of_object(alloc, &object)
 }
 
 /// The row of a text, in cells: as its line, whose body is an object with a member for each cell.
@@ -81,17 +106,23 @@ pub fn cell_line_of(alloc: Global, text: &str) -> Result<CellLine, Fail> {
 
 /// The removal of the row of a key's text: its table, and its identifier as a number.
 fn removal_of(alloc: Global, key: &str) -> Result<Change, Fail> {
-    let (table, id) = key.split_once(" ").ok_or("no identifier")?;
+    let (table, id) = parted(key, "no identifier")?;
     let id = number(id)?;
     let table = Text::from_str(alloc, table)?;
     Ok(Change::Remove { table, id })
 }
 
+/// The change that puts the row of a text.
+fn put_of(alloc: Global, line: &str) -> Result<Change, Fail> {
+    Ok(Change::Put(cell_line_of(alloc, line)?))
+}
+
 /// The change of a text: `put` and a row, or `remove` and a key.
 pub fn change_of(alloc: Global, text: &str) -> Result<Change, Fail> {
-    match text.split_once(" ").ok_or("no change")? {
-        ("put", line) => Ok(Change::Put(cell_line_of(alloc, line)?)),
-        ("remove", key) => removal_of(alloc, key),
+    let (word, rest) = parted(text, "no change")?;
+    match word {
+        "put" => put_of(alloc, rest),
+        "remove" => removal_of(alloc, rest),
         _ => Err(Fail::new("no change")),
     }
 }

@@ -19,39 +19,35 @@ struct Cells {
     others: &'static str,
 }
 
-/// The cells without that of a column, followed by one with this body, if there is a body.
-fn replaced(
-    alloc: Global,
-    cells: Vec<Cell>,
-    column: &str,
-    body: Option<&str>,
-) -> Result<Vec<Cell>, Fail> {
-    let mut cells = cells;
+/// Adds the cell of a column with this body.
+fn push_cell(alloc: Global, cells: &mut Vec<Cell>, column: &str, body: &str) -> Result<(), Fail> {
+    Ok(cells.push(cell(alloc, column, body.as_bytes())?)?)
+}
+
+/// Takes out the cell of a column.
+fn remove(cells: &mut Vec<Cell>, column: &str) {
     cells.retain(|cell| cell.column.as_str() != column);
-    if let Some(body) = body {
-        cells.push(cell(alloc, column, body.as_bytes())?)?;
+}
+
+/// Takes out the cell of a column, and adds one with the body of a command, if it has one.
+fn change(alloc: Global, cells: &mut Vec<Cell>, command: &str) -> Result<(), Fail> {
+    match command.split_once(" ") {
+        Some((column, body)) => {
+            remove(cells, column);
+            push_cell(alloc, cells, column, body)
+        }
+        None => {
+            remove(cells, command);
+            Ok(())
+        }
     }
-    Ok(cells)
 }
 
 /// The row of a line with the cell of a command in the place of its own.
 fn changed(alloc: Global, row: &str, command: &str) -> Result<CellLine, Fail> {
-    let CellLine {
-        table,
-        id,
-        version,
-        cells,
-    } = cell_line_of(alloc, row)?;
-    let cells = match command.split_once(" ") {
-        Some((column, body)) => replaced(alloc, cells, column, Some(body))?,
-        None => replaced(alloc, cells, command, None)?,
-    };
-    Ok(CellLine {
-        table,
-        id,
-        version,
-        cells,
-    })
+    let mut line = cell_line_of(alloc, row)?;
+    change(alloc, &mut line.cells, command)?;
+    Ok(line)
 }
 
 /// A keeper of format 2 that holds the rows of these lines, and this one.
@@ -69,17 +65,34 @@ fn keeper_with(
     }
 }
 
+/// The first line of what is found, or `kept` if it is this one.
+fn first_or_kept(alloc: Global, found: &str, line: &str) -> Result<String, Fail> {
+    let first = first_line(alloc, found)?;
+    if first.as_str() == line {
+        return Ok(String::from_str(alloc, "kept")?);
+    }
+    Ok(first)
+}
+
+impl Cells {
+    /// What opens with a row beside the others.
+    fn opened(&self, alloc: Global, row: CellLine) -> Result<String, Fail> {
+        let keeper = keeper_with(alloc, self.schema, self.others, row)?;
+        rows_of(alloc, keeper, self.schema)
+    }
+
+    /// The first line of that, or `kept` if it is the row's own.
+    fn opened_or_kept(&self, alloc: Global, row: CellLine) -> Result<String, Fail> {
+        let line = text_of_cell_line(alloc, &row)?;
+        let found = self.opened(alloc, row)?;
+        first_or_kept(alloc, found.as_str(), line.as_str())
+    }
+}
+
 impl Scripted for Cells {
     fn answer(&mut self, alloc: Global, command: &str) -> Result<String, Fail> {
         let row = changed(alloc, self.row, command)?;
-        let text = text_of_cell_line(alloc, &row)?;
-        let keeper = keeper_with(alloc, self.schema, self.others, row)?;
-        let found = rows_of(alloc, keeper, self.schema)?;
-        let found = first_line(alloc, found.as_str())?;
-        if found.as_str() == text.as_str() {
-            return Ok(String::from_str(alloc, "kept")?);
-        }
-        Ok(found)
+        self.opened_or_kept(alloc, row)
     }
 }
 

@@ -1,7 +1,8 @@
-use ov_base::Text;
-use ov_store::{Store, reopen_after_crash};
+use crate::stores::{create, open};
+use ov_keeper::Keeper;
+use ov_store::{Store, Unopened, reopen_after_crash};
 use sqlite::{Alter, Connection, Files, Options};
-use sqlite_disk::{Fuse, Memory};
+use sqlite_disk::{Crash, Fuse, Memory};
 use sqlite_trees::store::Reopen;
 use std::alloc::Global;
 use std::test::Fail;
@@ -53,9 +54,9 @@ made 0 of 2:Switch 1 1 {"load":1,"name":"one"};Switch 3 0 {"name":"three"}; newe
 made 1 of 2:Switch 1 1 {"load":1,"name":"one"};Switch 3 0 {"name":"three"}; newer
 made 1 of 2:Switch 1 2 {"name":"one"}; newer"#;
 
-/// Whether a store that was refused has rows.
-fn found_in_refused<S: Alter + Drop>(alloc: Global, store: Store<S>) -> Result<&'static str, Fail> {
-    let lines = Keeping::new(alloc, store).answer(alloc, "lines")?;
+/// Whether what was refused holds rows.
+fn found_in_refused<K: Keeper + Drop>(alloc: Global, keeper: K) -> Result<&'static str, Fail> {
+    let lines = Keeping::new(alloc, keeper).answer(alloc, "lines")?;
     if lines.as_str().is_empty() {
         Ok("refused: a store")
     } else {
@@ -74,10 +75,7 @@ fn found_beside<S: Alter + Drop>(connection: &Connection<S>) -> &'static str {
 
 /// What is found in a reopened database on which no store was made.
 fn found_again<S: Alter + Drop>(alloc: Global, again: Connection<S>) -> Result<&'static str, Fail> {
-    if !again.is_autocommit() {
-        return Err(Fail::new("in a transaction"));
-    }
-    match Store::open(alloc, again) {
+    match open(alloc, again)? {
         Ok(store) => found_in_refused(alloc, store),
         Err(refused) => Ok(found_beside(&refused.connection)),
     }
@@ -108,7 +106,7 @@ fn text_of_refused<S: Alter + Reopen + Drop>(
 }
 
 /// The number of commits and rewrites of a script that are made before the first that is not.
-fn made<S: Scripted>(alloc: Global, keeping: &mut S, script: &str) -> Result<u64, Fail> {
+fn number_made<S: Scripted>(alloc: Global, keeping: &mut S, script: &str) -> Result<u64, Fail> {
     let mut made: u64 = 0;
     for line in script.lines() {
         let answer = keeping.answer(alloc, line)?;
@@ -121,22 +119,58 @@ fn made<S: Scripted>(alloc: Global, keeping: &mut S, script: &str) -> Result<u64
     Ok(made)
 }
 
+/// That number over a keeper, which is returned too.
+fn made_by<K: Keeper + Drop>(alloc: Global, keeper: K, script: &str) -> Result<(u64, K), Fail> {
+    let mut keeping = Keeping::new(alloc, keeper);
+    let made = number_made(alloc, &mut keeping, script)?;
+    Ok((made, keeping.into_keeper()))
+}
+
+/// Adds the answer to a command.
+fn push_answer<S: Scripted>(
+    alloc: Global,
+    text: &mut String,
+    keeping: &mut S,
+    command: &str,
+) -> Result<(), Fail> {
+    let answer = keeping.answer(alloc, command)?;
+    Ok(text.push_str(answer.as_str())?)
+}
+
+/// Whether the text of the schema is the newer one.
+fn is_newer<S: Scripted>(alloc: Global, keeping: &mut S) -> Result<bool, Fail> {
+    let schema = keeping.answer(alloc, "schema")?;
+    Ok(schema.as_str() == "newer")
+}
+
+/// Adds what a store holds: its format, its rows, and whether the text of its schema is the newer one.
+fn push_found<S: Scripted>(alloc: Global, text: &mut String, keeping: &mut S) -> Result<(), Fail> {
+    push_answer(alloc, text, keeping, "format")?;
+    text.push_str(":")?;
+    push_answer(alloc, text, keeping, "lines")?;
+    if is_newer(alloc, keeping)? {
+        text.push_str(" newer")?;
+    }
+    Ok(())
+}
+
 /// What is found after `made` commits and rewrites.
+fn found_by<K: Keeper + Drop>(alloc: Global, made: u64, keeper: K) -> Result<String, Fail> {
+    let mut text = format!(in alloc; "made {made} of ")?;
+    push_found(alloc, &mut text, &mut Keeping::new(alloc, keeper))?;
+    Ok(text)
+}
+
+/// The same in what was opened again, if that is a store.
 fn found_in_store<S: Alter + Drop>(
     alloc: Global,
     made: u64,
-    again: Store<S>,
+    again: Result<Store<S>, Unopened<S>>,
 ) -> Result<String, Fail> {
-    let mut keeping = Keeping::new(alloc, again);
-    let format = keeping.answer(alloc, "format")?;
-    let lines = keeping.answer(alloc, "lines")?;
-    let schema = keeping.answer(alloc, "schema")?;
-    let newer = if schema.as_str() == "newer" {
-        " newer"
-    } else {
-        ""
-    };
-    Ok(format!(in alloc; "made {made} of {format}:{lines}{newer}")?)
+    match again {
+        Ok(again) => found_by(alloc, made, again),
+        Err(_) => Ok(String::from_str(alloc, "opened again, and no store")?),
+    }
 }
 
 /// What is found after `made` commits and rewrites, and a crash.
@@ -146,8 +180,7 @@ fn found_after<S: Alter + Reopen + Drop>(
     store: Store<S>,
 ) -> Result<String, Fail> {
     match reopen_after_crash(alloc, store) {
-        Ok(Ok(again)) => found_in_store(alloc, made, again),
-        Ok(Err(_)) => Ok(String::from_str(alloc, "opened again, and no store")?),
+        Ok(again) => found_in_store(alloc, made, again),
         Err(_) => Ok(String::from_str(alloc, "not opened again")?),
     }
 }
@@ -158,52 +191,55 @@ fn found_of_made<S: Alter + Reopen + Drop>(
     store: Store<S>,
     script: &str,
 ) -> Result<String, Fail> {
-    let mut keeping = Keeping::new(alloc, store);
-    let made = made(alloc, &mut keeping, script)?;
-    found_after(alloc, made, keeping.into_keeper())
+    let (made, store) = made_by(alloc, store, script)?;
+    found_after(alloc, made, store)
 }
 
-/// Makes a store, runs the script until a commit or the rewrite fails, and returns what is found after a crash.
+/// Runs the script over a store, if there is one, until a commit or the rewrite fails, and returns what is found after a crash.
+fn found_of<S: Alter + Reopen + Drop>(
+    alloc: Global,
+    store: Result<Store<S>, Unopened<S>>,
+    script: &str,
+) -> Result<String, Fail> {
+    match store {
+        Ok(store) => found_of_made(alloc, store, script),
+        Err(refused) => text_of_refused(alloc, refused.connection),
+    }
+}
+
+/// The same for a new store, and its script.
 fn found<S: Alter + Reopen + Drop>(
     alloc: Global,
     connection: Connection<S>,
-    schema: Text,
 ) -> Result<String, Fail> {
-    if !connection.is_autocommit() {
-        return Err(Fail::new("in a transaction"));
-    }
-    match Store::create(connection, schema) {
-        Ok(store) => found_of_made(alloc, store, SCRIPT),
-        Err(refused) => text_of_refused(alloc, refused.connection),
-    }
+    found_of(alloc, create(alloc, connection, NET)?, SCRIPT)
 }
 
-/// The same for the store of format 1 that a connection has, and its script.
-fn found_of_old<S: Alter + Reopen + Drop>(
+/// The statements that make a store of format 1, in one transaction.
+fn old_statements(alloc: Global) -> Result<String, Fail> {
+    let statements = whole_file(alloc, NET, OLD_LINES)?;
+    Ok(format!(in alloc; "BEGIN;{statements}COMMIT;")?)
+}
+
+/// Makes a store of format 1, and returns whether it is made.
+fn is_prepared<S: Alter + Drop>(
     alloc: Global,
-    connection: Connection<S>,
-) -> Result<String, Fail> {
-    if !connection.is_autocommit() {
-        return Err(Fail::new("in a transaction"));
-    }
-    match Store::open(alloc, connection) {
-        Ok(store) => found_of_made(alloc, store, OLD_SCRIPT),
-        Err(refused) => text_of_refused(alloc, refused.connection),
-    }
+    connection: &mut Connection<S>,
+) -> Result<bool, Fail> {
+    let statements = old_statements(alloc)?;
+    Ok(connection.execute_batch(statements.as_str()).is_ok())
 }
 
-/// Makes a store of format 1 in one transaction, and goes on as above.
+/// The same for a store of format 1 that is made first, and its script.
 fn found_in_old<S: Alter + Reopen + Drop>(
     alloc: Global,
     connection: Connection<S>,
 ) -> Result<String, Fail> {
     let mut connection = connection;
-    let statements = whole_file(alloc, NET, OLD_LINES)?;
-    let prepared = format!(in alloc; "BEGIN;{statements}COMMIT;")?;
-    if connection.execute_batch(prepared.as_str()).is_err() {
+    if !is_prepared(alloc, &mut connection)? {
         return Ok(String::from_str(alloc, "not prepared")?);
     }
-    found_of_old(alloc, connection)
+    found_of(alloc, open(alloc, connection)?, OLD_SCRIPT)
 }
 
 /// What is found over a connection, from the making of a store on.
@@ -215,7 +251,22 @@ fn found_from<S: Alter + Reopen + Drop>(
     if is_old {
         return found_in_old(alloc, connection);
     }
-    found(alloc, connection, Text::from_str(alloc, NET)?)
+    found(alloc, connection)
+}
+
+/// The same over two files. It is generic over them, since the proof for a kind of file is longer.
+fn found_in_files<D: Crash + Drop>(
+    alloc: Global,
+    files: Files<D>,
+    is_old: bool,
+) -> Result<String, Fail> {
+    if !files.may_be_used() {
+        return Err(Fail::new("not usable"));
+    }
+    match Connection::open_files(alloc, files, Options::new(3)) {
+        Ok(connection) => found_from(alloc, connection, is_old),
+        Err(_) => Ok(String::from_str(alloc, "no database")?),
+    }
 }
 
 /// The same over two files in memory, each of which fails after a number of calls.
@@ -229,10 +280,7 @@ fn found_over_fuses(
         log: Fuse::new(Memory::new(alloc), log_calls),
         db: Fuse::new(Memory::new(alloc), file_calls),
     };
-    match Connection::open_files(alloc, files, Options::new(3)) {
-        Ok(connection) => found_from(alloc, connection, is_old),
-        Err(_) => Ok(String::from_str(alloc, "no database")?),
-    }
+    found_in_files(alloc, files, is_old)
 }
 
 /// Whether this may be found.

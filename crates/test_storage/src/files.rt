@@ -1,10 +1,11 @@
 //! Stores over files of the system, in their own folder below the one that the tests run in.
 
-use crate::stores::{FOUND, TWO_COMMITS, kept};
+use crate::stores::{FOUND, TWO_COMMITS, kept_in_files};
 use ov_base::Text;
 use ov_keeper::KeepFault;
 use ov_store::{close_in_file, store_in_file};
-use sqlite::{Connection, Unknown};
+use sqlite::{Alter, Connection, FileStore, Unknown};
+use sqlite_disk::Disk;
 use std::fs;
 use std::test::Fail;
 use test_basics::{holds, is_text, whole_file};
@@ -26,16 +27,18 @@ fn clear(rt: &HostRuntime) -> Result<(), Fail> {
 fn served(rt: &HostRuntime, script: &str) -> Result<(), Fail> {
     let text = Text::from_str(rt.alloc(), "new")?;
     let store = store_in_file(rt, PATH, text, Unknown)?;
-    let store = kept(rt.alloc(), store, script)?;
-    close_in_file(rt, PATH, store)?;
-    Ok(())
+    let store = kept_in_files(rt.alloc(), store, script)?;
+    Ok(close_in_file(rt, PATH, store)?)
 }
 
-/// Why the file has no store, if it has none.
+/// Why the file has no store, if it has none. A store is closed: the drop of one in files takes long to prove.
 fn refused(rt: &HostRuntime) -> Result<Option<KeepFault>, Fail> {
     let text = Text::from_str(rt.alloc(), "new")?;
     match store_in_file(rt, PATH, text, Unknown) {
-        Ok(_) => Ok(None),
+        Ok(store) => {
+            close_in_file(rt, PATH, store)?;
+            Ok(None)
+        }
         Err(fault) => Ok(Some(fault)),
     }
 }
@@ -66,13 +69,29 @@ fn a_closed_file_has_all(rt: HostRuntime) -> Result<(), Fail> {
     Ok(())
 }
 
+/// Runs statements over a connection, and returns it.
+fn executed<S: Alter + Drop>(
+    connection: Connection<S>,
+    statements: &str,
+) -> Result<Connection<S>, Fail> {
+    let mut connection = connection;
+    connection.execute_batch(statements)?;
+    Ok(connection)
+}
+
+/// Runs statements over a connection to files, and closes it. It is generic over the files, like `kept_in_files`, and drops
+/// no connection itself.
+fn execute<D: Disk + Drop>(
+    connection: Connection<FileStore<D>>,
+    statements: &str,
+) -> Result<(), Fail> {
+    Ok(executed(connection, statements)?.close()?)
+}
+
 /// Makes a file by these statements, as SQLite leaves it without a log.
 fn make(rt: &HostRuntime, statements: &str) -> Result<(), Fail> {
-    let mut connection = Connection::open(rt, PATH)?;
-    connection.execute_batch(statements)?;
-    connection.close()?;
-    fs::remove_file(rt, LOG)?;
-    Ok(())
+    execute(Connection::open(rt, PATH)?, statements)?;
+    Ok(fs::remove_file(rt, LOG)?)
 }
 
 /// What an open finds in the file of format 1, and a rewrite of it.

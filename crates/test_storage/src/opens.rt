@@ -129,6 +129,11 @@ fn opened_in_cells(alloc: Global, stored: &str, lines: &str, schema: &str) -> Re
     rows_of(alloc, keeper_of(alloc, stored, lines)?, schema)
 }
 
+/// Fails unless what was opened is this text.
+fn is_opened(alloc: Global, opened: Result<String, Fail>, want: &str) -> Result<(), Fail> {
+    is_text(alloc, opened?.as_str(), want)
+}
+
 /// Fails unless the result is this text in both formats.
 fn opens_as(
     alloc: Global,
@@ -137,10 +142,8 @@ fn opens_as(
     schema: &str,
     want: &str,
 ) -> Result<(), Fail> {
-    let whole = opened_whole(alloc, stored, lines, schema)?;
-    is_text(alloc, whole.as_str(), want)?;
-    let in_cells = opened_in_cells(alloc, stored, lines, schema)?;
-    is_text(alloc, in_cells.as_str(), want)
+    is_opened(alloc, opened_whole(alloc, stored, lines, schema), want)?;
+    is_opened(alloc, opened_in_cells(alloc, stored, lines, schema), want)
 }
 
 #[test]
@@ -275,18 +278,21 @@ fn committed<K: Keeper + Drop>(alloc: Global, keeper: K, line: &Line) -> Result<
     Ok(db.into_keeper())
 }
 
-/// What is opened after the row of a line is added to these lines of format 1, which the first opening rewrites.
-fn whole_opened_again(alloc: Global, lines: &str, line: &str) -> Result<String, Fail> {
-    let keeper = whole_keeper_of(alloc, NET, lines)?;
-    let keeper = committed(alloc, keeper, &line_of(alloc, line)?)?;
+/// What is opened after the row of a line is added to those of a keeper.
+fn opened_after<K: Keeper + Drop>(alloc: Global, keeper: K, line: &str) -> Result<String, Fail> {
+    let line = line_of(alloc, line)?;
+    let keeper = committed(alloc, keeper, &line)?;
     rows_of(alloc, keeper, NET)
+}
+
+/// The same for these lines of format 1, which the first opening rewrites.
+fn whole_opened_again(alloc: Global, lines: &str, line: &str) -> Result<String, Fail> {
+    opened_after(alloc, whole_keeper_of(alloc, NET, lines)?, line)
 }
 
 /// The same for the rows of these lines in format 2.
 fn opened_again(alloc: Global, lines: &str, line: &str) -> Result<String, Fail> {
-    let keeper = keeper_of(alloc, NET, lines)?;
-    let keeper = committed(alloc, keeper, &line_of(alloc, line)?)?;
-    rows_of(alloc, keeper, NET)
+    opened_after(alloc, keeper_of(alloc, NET, lines)?, line)
 }
 
 /// Two rows that are there before a commit.
@@ -306,12 +312,12 @@ Switch 6 1 {"load":0,"main":["set",[]],"name":"s1","ports":["uuid","00000000-000
 /// What was committed is found again, with the table, the identifier, the version and the bytes of its line.
 #[test]
 fn committed_rows_are_opened_again(rt: HostRuntime) -> Result<(), Fail> {
-    let found = opened_again(rt.alloc(), BEFORE, COMMITTED)?;
-    is_text(rt.alloc(), found.as_str(), AFTER)
+    let found = opened_again(rt.alloc(), BEFORE, COMMITTED);
+    is_opened(rt.alloc(), found, AFTER)
 }
 
 #[test]
 fn rows_of_format_1_are_committed_to(rt: HostRuntime) -> Result<(), Fail> {
-    let found = whole_opened_again(rt.alloc(), BEFORE, COMMITTED)?;
-    is_text(rt.alloc(), found.as_str(), AFTER)
+    let found = whole_opened_again(rt.alloc(), BEFORE, COMMITTED);
+    is_opened(rt.alloc(), found, AFTER)
 }

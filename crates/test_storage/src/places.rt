@@ -2,7 +2,7 @@
 
 ghost use Rattle.std.specs.Prelude.{◌≡◌, false};
 
-use crate::stores::{created, kept};
+use crate::stores::{closed_after, created};
 use sqlite::types::ValueRef;
 use sqlite::{Alter, Connection, Row};
 use std::alloc::Global;
@@ -33,6 +33,21 @@ fn text_of_number(alloc: Global, row: &Row) -> Result<String, Fail> {
     }
 }
 
+/// Adds the number of a row.
+fn push_number(alloc: Global, text: &mut String, row: &Row) -> Result<(), Fail> {
+    let number = text_of_number(alloc, row)?;
+    Ok(text.push_str(number.as_str())?)
+}
+
+/// The numbers of rows.
+fn text_of_numbers(alloc: Global, rows: &[Row]) -> Result<String, Fail> {
+    let mut text = String::new(alloc);
+    for row in rows {
+        push_number(alloc, &mut text, row)?;
+    }
+    Ok(text)
+}
+
 /// The numbers of the cells, in the order in which SQLite finds them: that of their keys.
 fn numbers<S: Alter + Drop>(alloc: Global, connection: &mut Connection<S>) -> Result<String, Fail>
     requires { connection.old.in_transaction ≡ false }
@@ -40,11 +55,7 @@ fn numbers<S: Alter + Drop>(alloc: Global, connection: &mut Connection<S>) -> Re
     let rows = connection
         .transaction()
         .query_all("SELECT rowid FROM cell", &[])?;
-    let mut text = String::new(alloc);
-    for row in rows.as_slice() {
-        text.push_str(text_of_number(alloc, row)?.as_str())?;
-    }
-    Ok(text)
+    text_of_numbers(alloc, rows.as_slice())
 }
 
 /// The numbers of the cells after a script over a new store.
@@ -54,7 +65,7 @@ fn numbers_after<S: Alter + Drop>(
     script: &str,
 ) -> Result<String, Fail> {
     let store = created(alloc, connection)?;
-    let mut connection = kept(alloc, store, script)?.close();
+    let mut connection = closed_after(alloc, store, script)?;
     numbers(alloc, &mut connection)
 }
 

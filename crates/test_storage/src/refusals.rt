@@ -1,8 +1,8 @@
-use crate::stores::{created, kept, opened};
+use crate::stores::{closed_after, create, created, open, opened};
 use crate::tables::{statement, text_of_left, text_of_other_row};
 use ov_base::Text;
-use ov_keeper::{KeepFault, Lines};
-use ov_store::{Store, store_over};
+use ov_keeper::Lines;
+use ov_store::{Store, Unopened, store_over};
 use sqlite::{Alter, Connection};
 use std::alloc::Global;
 use std::test::Fail;
@@ -153,9 +153,15 @@ fn text_of_store<S: Alter + Drop>(alloc: Global, store: Store<S>) -> Result<Stri
     contents(alloc, &mut store)
 }
 
-/// Why there is no store.
-fn refused(alloc: Global, fault: KeepFault) -> Result<String, Fail> {
-    Ok(format!(in alloc; "{fault}")?)
+/// The same, or why there is no store.
+fn text_of<S: Alter + Drop>(
+    alloc: Global,
+    made: Result<Store<S>, Unopened<S>>,
+) -> Result<String, Fail> {
+    match made {
+        Ok(store) => text_of_store(alloc, store),
+        Err(refusal) => Ok(format!(in alloc; "{}", refusal.fault)?),
+    }
 }
 
 /// What opening the database of a connection returns.
@@ -163,53 +169,33 @@ fn text_of_opened<S: Alter + Drop>(
     alloc: Global,
     connection: Connection<S>,
 ) -> Result<String, Fail> {
-    if !connection.is_autocommit() {
-        return Err(Fail::new("in a transaction"));
-    }
-    match Store::open(alloc, connection) {
-        Ok(store) => text_of_store(alloc, store),
-        Err(refusal) => refused(alloc, refusal.fault),
-    }
+    text_of(alloc, open(alloc, connection)?)
 }
 
 /// What making or opening a store there returns.
 fn text_of_made_or_opened<S: Alter + Drop>(
     alloc: Global,
     connection: Connection<S>,
-    schema: Text,
 ) -> Result<String, Fail> {
     if !connection.is_autocommit() {
         return Err(Fail::new("in a transaction"));
     }
-    match store_over(alloc, connection, schema) {
-        Ok(store) => text_of_store(alloc, store),
-        Err(refusal) => refused(alloc, refusal.fault),
-    }
+    let schema = Text::from_str(alloc, "new")?;
+    text_of(alloc, store_over(alloc, connection, schema))
 }
 
 /// What making a store there returns.
-fn text_of_made<S: Alter + Drop>(
-    alloc: Global,
-    connection: Connection<S>,
-    schema: Text,
-) -> Result<String, Fail> {
-    if !connection.is_autocommit() {
-        return Err(Fail::new("in a transaction"));
-    }
-    match Store::create(connection, schema) {
-        Ok(store) => text_of_store(alloc, store),
-        Err(refusal) => refused(alloc, refusal.fault),
-    }
+fn text_of_made<S: Alter + Drop>(alloc: Global, connection: Connection<S>) -> Result<String, Fail> {
+    text_of(alloc, create(alloc, connection, "new")?)
 }
 
 /// What making a store returns if one was made there before.
 fn text_of_made_again<S: Alter + Drop>(
     alloc: Global,
     connection: Connection<S>,
-    schema: Text,
 ) -> Result<String, Fail> {
     let store = created(alloc, connection)?;
-    text_of_made(alloc, store.close(), schema)
+    text_of_made(alloc, store.close())
 }
 
 /// A commit of a row.
@@ -232,7 +218,7 @@ fn text_of_kept<S: Alter + Drop>(
     store: Store<S>,
     script: &str,
 ) -> Result<String, Fail> {
-    let mut connection = kept(alloc, store, script)?.close();
+    let mut connection = closed_after(alloc, store, script)?;
     text_of_other_row(alloc, &mut connection)
 }
 
@@ -259,7 +245,7 @@ fn text_of_left_by_rewrite<S: Alter + Drop>(
     connection: Connection<S>,
 ) -> Result<String, Fail> {
     let store = opened(alloc, connection)?;
-    let mut connection = kept(alloc, store, REWRITE)?.close();
+    let mut connection = closed_after(alloc, store, REWRITE)?;
     text_of_left(alloc, &mut connection)
 }
 
@@ -281,13 +267,12 @@ fn text_by<S: Alter + Drop>(
     alloc: Global,
     connection: Connection<S>,
     way: Way,
-    schema: Text,
 ) -> Result<String, Fail> {
     match way {
         Way::Open => text_of_opened(alloc, connection),
-        Way::MakeOrOpen => text_of_made_or_opened(alloc, connection, schema),
-        Way::Make => text_of_made(alloc, connection, schema),
-        Way::MakeAgain => text_of_made_again(alloc, connection, schema),
+        Way::MakeOrOpen => text_of_made_or_opened(alloc, connection),
+        Way::Make => text_of_made(alloc, connection),
+        Way::MakeAgain => text_of_made_again(alloc, connection),
         Way::CommitToOpened => text_of_kept_by_opened(alloc, connection, COMMIT),
         Way::CommitToNew => text_of_kept_by_new(alloc, connection),
         Way::Rewrite => text_of_kept_by_opened(alloc, connection, REWRITE),
@@ -308,12 +293,11 @@ fn found<S: Alter + Drop>(
     alloc: Global,
     connection: Connection<S>,
     way: Way,
-    schema: Text,
     words: &str,
 ) -> Result<String, Fail> {
     let mut connection = connection;
     execute(&mut connection, words)?;
-    text_by(alloc, connection, way, schema)
+    text_by(alloc, connection, way)
 }
 
 /// The commands are the words of statements.
@@ -324,9 +308,8 @@ struct Databases {
 
 impl Scripted for Databases {
     fn answer(&mut self, alloc: Global, command: &str) -> Result<String, Fail> {
-        let schema = Text::from_str(alloc, "new")?;
         let connection = Connection::open_in_memory(alloc)?;
-        found(alloc, connection, self.way, schema, command)
+        found(alloc, connection, self.way, command)
     }
 }
 

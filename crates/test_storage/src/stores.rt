@@ -1,21 +1,49 @@
+ghost use Rattle.std.specs.Prelude.{◌≡◌, false, IfOk};
+
 use ov_base::Text;
 use ov_keeper::Keeper;
-use ov_store::{MemoryDisk, Store, store_in_memory};
-use sqlite::{Alter, Connection, Files, Options};
+use ov_store::{MemoryDisk, Store, Unopened, store_in_memory};
+use sqlite::{Alter, Connection, FileStore, Files, Options};
+use sqlite_disk::Disk;
 use std::alloc::Global;
 use std::test::Fail;
 use test_basics::{Faults, Keeping, NET, agrees, failing, follows};
+
+/// What making a store with this schema text returns.
+pub(crate) fn create<S: Alter + Drop>(
+    alloc: Global,
+    connection: Connection<S>,
+    schema: &str,
+) -> Result<Result<Store<S>, Unopened<S>>, Fail> {
+    if !connection.is_autocommit() {
+        return Err(Fail::new("in a transaction"));
+    }
+    let schema = Text::from_str(alloc, schema)?;
+    Ok(Store::create(connection, schema))
+}
+
+/// What opening a store returns.
+pub(crate) fn open<S: Alter + Drop>(
+    alloc: Global,
+    connection: Connection<S>,
+) -> Result<Result<Store<S>, Unopened<S>>, Fail> {
+    if !connection.is_autocommit() {
+        return Err(Fail::new("in a transaction"));
+    }
+    Ok(Store::open(alloc, connection))
+}
+
+/// The store. Fails if there is none.
+fn taken<S: Alter + Drop>(made: Result<Store<S>, Unopened<S>>) -> Result<Store<S>, Fail> {
+    Ok(made?)
+}
 
 /// A new store over a database that has none.
 pub(crate) fn created<S: Alter + Drop>(
     alloc: Global,
     connection: Connection<S>,
 ) -> Result<Store<S>, Fail> {
-    if !connection.is_autocommit() {
-        return Err(Fail::new("in a transaction"));
-    }
-    let schema = Text::from_str(alloc, NET)?;
-    Ok(Store::create(connection, schema)?)
+    taken(create(alloc, connection, NET)?)
 }
 
 /// The store of a database that has one.
@@ -23,10 +51,7 @@ pub(crate) fn opened<S: Alter + Drop>(
     alloc: Global,
     connection: Connection<S>,
 ) -> Result<Store<S>, Fail> {
-    if !connection.is_autocommit() {
-        return Err(Fail::new("in a transaction"));
-    }
-    Ok(Store::open(alloc, connection)?)
+    taken(open(alloc, connection)?)
 }
 
 /// Rows that are put, put again with other cells, and removed.
@@ -77,26 +102,60 @@ pub(crate) fn kept<K: Keeper + Drop>(alloc: Global, keeper: K, script: &str) -> 
     Ok(keeping.into_keeper())
 }
 
+/// Runs a script over a store and returns its connection.
+pub(crate) fn closed_after<S: Alter + Drop>(
+    alloc: Global,
+    store: Store<S>,
+    script: &str,
+) -> Result<Connection<S>, Fail>
+    ensures { IfOk result (λ connection. connection.in_transaction ≡ false) }
+{
+    Ok(kept(alloc, store, script)?.close())
+}
+
 /// Runs a script over the store of a database.
 fn found<S: Alter + Drop>(
     alloc: Global,
     connection: Connection<S>,
     script: &str,
 ) -> Result<(), Fail> {
-    let store = opened(alloc, connection)?;
-    agrees(alloc, Keeping::new(alloc, store), script)
+    closed_after(alloc, opened(alloc, connection)?, script)?;
+    Ok(())
 }
 
-/// Runs a script over a new database in memory, closes it, and runs another over what its file then holds, without the log.
-/// No test holds a connection to files itself, since each function that holds one takes long to prove.
-fn found_after_a_close(alloc: Global, script: &str, next: &str) -> Result<(), Fail> {
-    let store = store_in_memory(alloc, Text::from_str(alloc, "new")?)?;
-    let Files { log: _, db } = kept(alloc, store, script)?.into_files()?;
-    let log = MemoryDisk::new(alloc);
-    match Connection::open_files(alloc, Files { log, db }, Options::new(2)) {
+/// Runs a script over a store in files and returns the store. It is generic over the files, since the proof that the store of
+/// a kind of file is a keeper is longer.
+pub(crate) fn kept_in_files<D: Disk + Drop>(
+    alloc: Global,
+    store: Store<FileStore<D>>,
+    script: &str,
+) -> Result<Store<FileStore<D>>, Fail> {
+    kept(alloc, store, script)
+}
+
+/// Runs a script over a store in files, closes it, and runs another over what its file then holds, with this log.
+fn found_with<D: Disk + Drop>(
+    alloc: Global,
+    store: Store<FileStore<D>>,
+    log: D,
+    script: &str,
+    next: &str,
+) -> Result<(), Fail> {
+    let Files { log: _, db } = kept_in_files(alloc, store, script)?.into_files()?;
+    let files = Files { log, db };
+    if !files.may_be_used() {
+        return Err(Fail::new("not usable"));
+    }
+    match Connection::open_files(alloc, files, Options::new(2)) {
         Ok(again) => found(alloc, again, next),
         Err(_) => Err(Fail::new("not opened again")),
     }
+}
+
+/// The same for a new database in memory, and no log.
+fn found_after_a_close(alloc: Global, script: &str, next: &str) -> Result<(), Fail> {
+    let store = store_in_memory(alloc, Text::from_str(alloc, "new")?)?;
+    found_with(alloc, store, MemoryDisk::new(alloc), script, next)
 }
 
 #[test]
@@ -109,21 +168,30 @@ fn a_rewrite_is_found_after_a_close(rt: HostRuntime) -> Result<(), Fail> {
     found_after_a_close(rt.alloc(), TWO_REWRITES, "schema -> newest\nlines")
 }
 
-/// Runs a script over a keeper with these faults, over a new store.
-fn kept_by_failing<S: Alter + Drop>(
+/// Runs a script over a keeper with these faults, over another.
+fn kept_by_failing<K: Keeper + Drop>(
+    alloc: Global,
+    keeper: K,
+    faults: Faults,
+    script: &str,
+) -> Result<(), Fail> {
+    agrees(alloc, Keeping::new(alloc, failing(keeper, faults)), script)
+}
+
+/// The same over a new store.
+fn kept_by_new<S: Alter + Drop>(
     alloc: Global,
     connection: Connection<S>,
     faults: Faults,
     script: &str,
 ) -> Result<(), Fail> {
-    let keeper = failing(created(alloc, connection)?, faults);
-    agrees(alloc, Keeping::new(alloc, keeper), script)
+    kept_by_failing(alloc, created(alloc, connection)?, faults, script)
 }
 
 /// The same over a new database in memory.
 fn kept_in_memory(alloc: Global, faults: Faults, script: &str) -> Result<(), Fail> {
     let connection = Connection::open_in_memory(alloc)?;
-    kept_by_failing(alloc, connection, faults, script)
+    kept_by_new(alloc, connection, faults, script)
 }
 
 #[test]

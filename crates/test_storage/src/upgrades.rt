@@ -1,11 +1,10 @@
 //! Databases of stored format 1 that are opened as rows, and what is stored after it.
 
-ghost use Rattle.std.specs.Prelude.{◌≡◌, false};
-
 use crate::opens::text_of_rows;
 use crate::stores::opened;
 use ov_db::{Db, RefusedOpen};
 use ov_keeper::Keeper;
+use ov_rows::Rows;
 use sqlite::{Alter, Connection};
 use std::alloc::Global;
 use std::test::Fail;
@@ -16,43 +15,34 @@ const LINES: &str = r#"Port 3 4 {"name":"p1","peer":["set",[]],"tag":7}
 Switch 6 1 {"load":0,"main":["set",[]],"name":"s1","ports":["uuid","00000000-0000-0000-0000-000000000003"]}
 "#;
 
-/// The rows that a keeper holds, each in a line, and the keeper.
-fn rows_opened<K: Keeper + Drop>(alloc: Global, keeper: K) -> Result<(K, String), Fail> {
+/// Fails unless rows are those of the lines.
+fn are_those(alloc: Global, rows: &Rows) -> Result<(), Fail> {
+    let found = text_of_rows(alloc, rows)?;
+    is_text(alloc, found.as_str(), LINES)
+}
+
+/// Opens the rows of a keeper, and returns the keeper. Fails unless they are those of the lines.
+fn with_rows<K: Keeper + Drop>(alloc: Global, keeper: K) -> Result<K, Fail> {
     let db = Db::open(alloc, keeper, net(alloc)?)?;
-    let rows = text_of_rows(alloc, db.rows())?;
-    Ok((db.into_keeper(), rows))
+    are_those(alloc, db.rows())?;
+    Ok(db.into_keeper())
 }
 
 /// The number of rows that a query gives.
-fn count<S: Alter + Drop>(connection: &mut Connection<S>, query: &str) -> Result<usize, Fail>
-    requires { connection.old.in_transaction ≡ false }
-{
-    Ok(connection.transaction().query_all(query, &[])?.len())
-}
-
-/// The number of rows that a query gives, and the connection.
-fn counted<S: Alter + Drop>(
-    connection: Connection<S>,
-    query: &str,
-) -> Result<(Connection<S>, usize), Fail> {
-    let mut connection = connection;
+fn count<S: Alter + Drop>(connection: &mut Connection<S>, query: &str) -> Result<usize, Fail> {
     if !connection.is_autocommit() {
         return Err(Fail::new("in a transaction"));
     }
-    let rows = count(&mut connection, query)?;
-    Ok((connection, rows))
+    Ok(connection.transaction().query_all(query, &[])?.len())
 }
 
-/// How many rows the tables `line`, `head` and `cell` have, and the connection.
-fn counts<S: Alter + Drop>(
-    alloc: Global,
-    connection: Connection<S>,
-) -> Result<(Connection<S>, String), Fail> {
-    let (connection, lines) = counted(connection, "SELECT tbl FROM line")?;
-    let (connection, heads) = counted(connection, "SELECT tbl FROM head")?;
-    let (connection, cells) = counted(connection, "SELECT tbl FROM cell")?;
+/// Fails unless the table `line` has no row, and `head` and `cell` have those of the lines.
+fn is_in_cells<S: Alter + Drop>(alloc: Global, connection: &mut Connection<S>) -> Result<(), Fail> {
+    let lines = count(connection, "SELECT tbl FROM line")?;
+    let heads = count(connection, "SELECT tbl FROM head")?;
+    let cells = count(connection, "SELECT tbl FROM cell")?;
     let counts = format!(in alloc; "{lines} {heads} {cells}")?;
-    Ok((connection, counts))
+    is_text(alloc, counts.as_str(), "0 2 7")
 }
 
 /// Opens the rows of a database. Fails unless they are those of the lines, and are stored in format 2 afterwards.
@@ -60,10 +50,9 @@ fn is_upgraded<S: Alter + Drop>(
     alloc: Global,
     connection: Connection<S>,
 ) -> Result<Connection<S>, Fail> {
-    let (store, rows) = rows_opened(alloc, opened(alloc, connection)?)?;
-    is_text(alloc, rows.as_str(), LINES)?;
-    let (connection, counts) = counts(alloc, store.close())?;
-    is_text(alloc, counts.as_str(), "0 2 7")?;
+    let store = with_rows(alloc, opened(alloc, connection)?)?;
+    let mut connection = store.close();
+    is_in_cells(alloc, &mut connection)?;
     Ok(connection)
 }
 
@@ -88,48 +77,70 @@ fn a_database_of_format_1_has_format_2_after_an_opening(rt: HostRuntime) -> Resu
     are_upgraded(rt.alloc(), connection, statements.as_str())
 }
 
-/// What comes of an opening over a keeper of format 1: how many rows it gives, or why it is refused; and the keeper.
+/// How many rows there are, in words.
+fn number_of(alloc: Global, rows: &Rows) -> Result<String, Fail> {
+    let lines = text_of_rows(alloc, rows)?;
+    Ok(format!(in alloc; "{} rows", lines.as_str().lines().count())?)
+}
+
+/// What comes of an opening: how many rows it gives, or why it is refused.
 fn outcome_of<K: Keeper + Drop>(
     alloc: Global,
-    opened: Result<Db<K>, RefusedOpen<K>>,
-) -> Result<(K, String), Fail> {
+    opened: &Result<Db<K>, RefusedOpen<K>>,
+) -> Result<String, Fail> {
     match opened {
-        Ok(db) => {
-            let rows = text_of_rows(alloc, db.rows())?;
-            let told = format!(in alloc; "{} rows", rows.as_str().lines().count())?;
-            Ok((db.into_keeper(), told))
-        }
-        Err(refused) => {
-            let told = format!(in alloc; "{}", refused.fault)?;
-            Ok((refused.keeper, told))
-        }
+        Ok(db) => number_of(alloc, db.rows()),
+        Err(refused) => Ok(format!(in alloc; "{}", refused.fault)?),
     }
 }
 
-/// Opens the rows of a keeper, and returns what comes of it, the format that is stored then, and how often the device failed.
-fn opening<K: Keeper + Drop>(alloc: Global, keeper: K) -> Result<(K, String), Fail> {
-    let opened = Db::open(alloc, keeper, net(alloc)?);
-    let (keeper, told) = outcome_of(alloc, opened)?;
+/// The keeper of an opening.
+fn keeper_of<K: Keeper + Drop>(opened: Result<Db<K>, RefusedOpen<K>>) -> K {
+    match opened {
+        Ok(db) => db.into_keeper(),
+        Err(refused) => refused.keeper,
+    }
+}
+
+/// Fails unless this is what came of an opening, with the format that is stored then, and how often the device has failed.
+fn has_come<K: Keeper>(alloc: Global, came: &str, keeper: &K, wanted: &str) -> Result<(), Fail> {
     let format = keeper.format();
     let failures = keeper.failures();
-    Ok((
-        keeper,
-        format!(in alloc; "{told}, format {format}, {failures} failures")?,
-    ))
-}
-
-/// Opens the rows of a keeper twice.
-fn openings<K: Keeper + Drop>(alloc: Global, keeper: K) -> Result<String, Fail> {
-    let (keeper, first) = opening(alloc, keeper)?;
-    let (_, second) = opening(alloc, keeper)?;
-    Ok(format!(in alloc; "{first}; {second}")?)
-}
-
-/// Fails unless this comes of two openings over lines of format 1 with these faults.
-fn open_as(alloc: Global, lines: &str, faults: Faults, wanted: &str) -> Result<(), Fail> {
-    let keeper = failing(whole_keeper_of(alloc, NET, lines)?, faults);
-    let found = openings(alloc, keeper)?;
+    let found = format!(in alloc; "{came}, format {format}, {failures} failures")?;
     is_text(alloc, found.as_str(), wanted)
+}
+
+/// Opens the rows of a keeper, and returns the keeper. Fails unless this comes of it.
+fn opens_as<K: Keeper + Drop>(alloc: Global, keeper: K, wanted: &str) -> Result<K, Fail> {
+    let opened = Db::open(alloc, keeper, net(alloc)?);
+    let came = outcome_of(alloc, &opened)?;
+    let keeper = keeper_of(opened);
+    has_come(alloc, came.as_str(), &keeper, wanted)?;
+    Ok(keeper)
+}
+
+/// Opens the rows of a keeper twice. Fails unless this comes of the first opening and of the second.
+fn open_twice_as<K: Keeper + Drop>(
+    alloc: Global,
+    keeper: K,
+    first: &str,
+    second: &str,
+) -> Result<(), Fail> {
+    let keeper = opens_as(alloc, keeper, first)?;
+    opens_as(alloc, keeper, second)?;
+    Ok(())
+}
+
+/// The same over lines of format 1 with these faults.
+fn open_as(
+    alloc: Global,
+    lines: &str,
+    faults: Faults,
+    first: &str,
+    second: &str,
+) -> Result<(), Fail> {
+    let keeper = failing(whole_keeper_of(alloc, NET, lines)?, faults);
+    open_twice_as(alloc, keeper, first, second)
 }
 
 /// The second opening would meet the failure.
@@ -140,8 +151,8 @@ fn only_the_first_opening_of_format_1_writes(rt: HostRuntime) -> Result<(), Fail
         good: 1,
         bad: 1,
     };
-    let wanted = "2 rows, format 2, 0 failures; 2 rows, format 2, 0 failures";
-    open_as(rt.alloc(), LINES, faults, wanted)
+    let opened = "2 rows, format 2, 0 failures";
+    open_as(rt.alloc(), LINES, faults, opened, opened)
 }
 
 #[test]
@@ -151,15 +162,17 @@ fn a_refused_write_leaves_format_1(rt: HostRuntime) -> Result<(), Fail> {
         good: 0,
         bad: 1,
     };
-    let failed = "the device failed, format 1, 1 failures; 2 rows, format 2, 1 failures";
-    open_as(rt.alloc(), LINES, fails, failed)?;
+    let failed = "the device failed, format 1, 1 failures";
+    let opened = "2 rows, format 2, 1 failures";
+    open_as(rt.alloc(), LINES, fails, failed, opened)?;
     let is_large = Faults {
         is_too_large: true,
         good: 1,
         bad: 1,
     };
-    let refused = "too large to be stored, format 1, 0 failures; 2 rows, format 2, 0 failures";
-    open_as(rt.alloc(), LINES, is_large, refused)
+    let refused = "too large to be stored, format 1, 0 failures";
+    let opened = "2 rows, format 2, 0 failures";
+    open_as(rt.alloc(), LINES, is_large, refused, opened)
 }
 
 /// A port that no row refers to, and a body that is no row. A write would fail.
@@ -170,11 +183,9 @@ fn rows_of_format_1_that_are_refused_are_not_written(rt: HostRuntime) -> Result<
         good: 0,
         bad: 9,
     };
-    let broken =
-        "the stored rows break a constraint, format 1, 0 failures; the stored rows break a constraint, format 1, 0 failures";
+    let broken = "the stored rows break a constraint, format 1, 0 failures";
     let port = r#"Port 3 4 {"name":"p1","peer":["set",[]],"tag":7}"#;
-    open_as(rt.alloc(), port, faults, broken)?;
-    let unfit =
-        "a stored row does not fit the schema, format 1, 0 failures; a stored row does not fit the schema, format 1, 0 failures";
-    open_as(rt.alloc(), "Port 3 4 {}", faults, unfit)
+    open_as(rt.alloc(), port, faults, broken, broken)?;
+    let unfit = "a stored row does not fit the schema, format 1, 0 failures";
+    open_as(rt.alloc(), "Port 3 4 {}", faults, unfit, unfit)
 }

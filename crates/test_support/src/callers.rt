@@ -1,6 +1,5 @@
 use crate::machine::{NetCore, net_core};
-use crate::texts::{fact_text, session_of, step_text};
-use ov_base::Bytes;
+use crate::texts::{fact_text, parts_of, push, received, session_of, step_text, text_of_frame};
 use ov_core::{Cause, Event, Session};
 use ov_rpc::Received;
 use std::alloc::Global;
@@ -23,7 +22,7 @@ fn message_of(alloc: Global, call: &str) -> Result<Received, Fail> {
     let (id, rest) = call.split_once(" ").ok_or("no method")?;
     let (method, params) = rest.split_once(" ").ok_or("no params")?;
     let text = format!(in alloc; "{{\"id\":{id},\"method\":\"{method}\",\"params\":{params}}}")?;
-    Ok(Received::read(alloc, Bytes::from_slice(alloc, text.as_bytes())?)?)
+    received(alloc, text.as_str())
 }
 
 impl Callers {
@@ -34,10 +33,8 @@ impl Callers {
 
     /// Opens a session, and adds its serial.
     fn push_opened(&mut self, alloc: Global, serials: &mut String) -> Result<(), Fail> {
-        let serial = self.step(alloc, 0, Event::Open)?;
-        serials.push_str(serial.as_str())?;
-        serials.push_str(";")?;
-        Ok(())
+        push(serials, self.step(alloc, 0, Event::Open))?;
+        Ok(serials.push_str(";")?)
     }
 
     /// Opens `count` sessions, and returns their serials.
@@ -51,8 +48,7 @@ impl Callers {
 
     /// What a session was sent.
     fn got(&mut self, alloc: Global, session: Session) -> Result<String, Fail> {
-        let output = self.core.take_output(alloc, session)?;
-        Ok(String::from_utf8(output.into_vec())?)
+        text_of_frame(self.core.take_output(alloc, session)?)
     }
 
     /// Takes a call of a session.
@@ -86,8 +82,8 @@ impl Callers {
 
 impl Scripted for Callers {
     fn answer(&mut self, alloc: Global, command: &str) -> Result<String, Fail> {
-        let (word, rest) = command.split_once(" ").unwrap_or((command, ""));
-        let (number, rest) = rest.split_once(" ").unwrap_or((rest, ""));
+        let (word, rest) = parts_of(command);
+        let (number, rest) = parts_of(rest);
         let number = number.parse::<u64>()?;
         match word {
             "open" => self.open(alloc, number),

@@ -5,7 +5,7 @@ use ov_keeper::Keeper;
 use ov_txn::{Ready, Replies, Tries, Txn, attempt};
 use std::alloc::Global;
 use std::test::Fail;
-use test_basics::{Counter, Faults, NetKeeper, new_keeper, schema_of_text, trees};
+use test_basics::{Counter, Faults, NetKeeper, is_text, new_keeper, schema_of_text, trees};
 
 /// Makes nothing ready.
 #[derive(Drop)]
@@ -77,15 +77,18 @@ impl Looked {
         self.lookups.told(alloc, &db)
     }
 
+    /// Fails unless such a database reports this.
+    fn tells_again(&self, alloc: Global, told: &str) -> Result<(), Fail> {
+        let again = self.told_again(alloc)?;
+        is_text(alloc, again.as_str(), told)
+    }
+
     /// Attempts the transaction of a command. Fails unless both report the same afterwards.
     pub fn look(&mut self, alloc: Global, command: &str) -> Result<(), Fail> {
         let (_age, operations) = command.split_once(" ").ok_or("no age")?;
         self.attempt(alloc, operations)?;
         let told = self.told(alloc)?;
-        if told.as_str() == self.told_again(alloc)?.as_str() {
-            return Ok(());
-        }
-        Err(Fail::new(told))
+        self.tells_again(alloc, told.as_str())
     }
 }
 

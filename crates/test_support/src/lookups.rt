@@ -1,7 +1,8 @@
+use crate::texts::push;
 use ov_base::Text;
 use ov_db::{Db, ListKeeper};
 use ov_index::IndexKey;
-use ov_keeper::{CellLine, Change, Keeper};
+use ov_keeper::{Cell, CellLine, Change, Keeper};
 use ov_refs::KeySet;
 use ov_rows::{Row, RowKey, Rows, TableRows};
 use ov_schema::{Schema, Table, text_of};
@@ -78,13 +79,35 @@ impl Lookups {
     /// an index omits the values.
     pub(crate) fn told<K: Keeper + Drop>(&self, alloc: Global, db: &Db<K>) -> Result<String, Fail> {
         let mut text = String::new(alloc);
-        for key in &self.rows {
-            push_row(alloc, &mut text, db, key)?;
-        }
-        for key in &self.places {
-            text.push_str(text_of_place(alloc, db, key)?.as_str())?;
-        }
+        self.push_rows(alloc, &mut text, db)?;
+        self.push_places(alloc, &mut text, db)?;
         Ok(text)
+    }
+
+    /// Adds what a database reports for the keys of rows.
+    fn push_rows<K: Keeper + Drop>(
+        &self,
+        alloc: Global,
+        text: &mut String,
+        db: &Db<K>,
+    ) -> Result<(), Fail> {
+        for key in &self.rows {
+            push_row(alloc, text, db, key)?;
+        }
+        Ok(())
+    }
+
+    /// Adds what a database reports for the keys of indexes.
+    fn push_places<K: Keeper + Drop>(
+        &self,
+        alloc: Global,
+        text: &mut String,
+        db: &Db<K>,
+    ) -> Result<(), Fail> {
+        for key in &self.places {
+            push(text, text_of_place(alloc, db, key))?;
+        }
+        Ok(())
     }
 }
 
@@ -96,20 +119,25 @@ fn push_row<K: Keeper + Drop>(
     key: &RowKey,
 ) -> Result<(), Fail> {
     let count = db.strong_count(key.table(), key.id());
-    text.push_str(text_of_key(alloc, key)?.as_str())?;
-    text.push_str(format!(in alloc; " {count}")?.as_str())?;
+    push(text, text_of_count(alloc, key, count))?;
     if let Some(holders) = db.weak_holders(key.table(), key.id()) {
         push_keys(alloc, text, holders)?;
     }
-    text.push_str("\n")?;
-    Ok(())
+    Ok(text.push_str("\n")?)
+}
+
+/// The text of a row's key, and how many strong references the row has.
+fn text_of_count(alloc: Global, key: &RowKey, count: u64) -> Result<String, Fail> {
+    let table = key.table();
+    let id = key.id();
+    Ok(format!(in alloc; "{table} {id} {count}")?)
 }
 
 /// Adds the keys of rows, each after a space.
 fn push_keys(alloc: Global, text: &mut String, keys: &KeySet) -> Result<(), Fail> {
     for key in keys.iter() {
         text.push_str(" ")?;
-        text.push_str(text_of_key(alloc, key)?.as_str())?;
+        push(text, text_of_key(alloc, key))?;
     }
     Ok(())
 }
@@ -135,14 +163,19 @@ fn text_of_place<K: Keeper + Drop>(
     }
 }
 
-/// A row in cells, which are the members of the text of all its columns.
-fn line_of_row(alloc: Global, table: &str, id: Uuid, row: &Row) -> Result<CellLine, Fail> {
+/// The cells of a row, which are the members of the text of all its columns.
+fn cells_of_row(alloc: Global, row: &Row) -> Result<Vec<Cell>, Fail> {
     let text = row.columns.text(alloc)?;
+    cells_of(alloc, str::from_utf8(text.as_slice())?)
+}
+
+/// A row in cells.
+fn line_of_row(alloc: Global, table: &str, id: Uuid, row: &Row) -> Result<CellLine, Fail> {
     Ok(CellLine {
         table: Text::from_str(alloc, table)?,
         id,
         version: row.version,
-        cells: cells_of(alloc, str::from_utf8(text.as_slice())?)?,
+        cells: cells_of_row(alloc, row)?,
     })
 }
 
@@ -159,12 +192,18 @@ fn push_rows(
     Ok(())
 }
 
-/// A keeper of these rows.
-fn keeper_of_rows(alloc: Global, schema: Text, rows: &Rows) -> Result<ListKeeper, Fail> {
+/// The changes that put all rows.
+fn changes_of(alloc: Global, rows: &Rows) -> Result<Vec<Change>, Fail> {
     let mut changes = Vec::new(alloc);
     for (name, table) in rows.tables() {
         push_rows(alloc, &mut changes, name.as_str(), table)?;
     }
+    Ok(changes)
+}
+
+/// A keeper of these rows.
+fn keeper_of_rows(alloc: Global, schema: Text, rows: &Rows) -> Result<ListKeeper, Fail> {
+    let changes = changes_of(alloc, rows)?;
     let mut keeper = ListKeeper::new(alloc, schema);
     match keeper.commit(alloc, changes.as_slice()) {
         Ok(()) => Ok(keeper),

@@ -1,7 +1,10 @@
 ghost use Rattle.std.specs.Prelude.{IfOk};
 ghost use Rattle.ov_core.specs.Following.{HasNoHistory};
 
-use crate::texts::{fact_text, number_or_none, number_text, push_number, session_of, step_word};
+use crate::texts::{
+    fact_text, number_or_none, number_text, parts_of, push_number, received, session_of, step_word,
+    text_of_frame,
+};
 use ov_base::Bytes;
 use ov_core::{Cause, Core, Event, Session, Stepped};
 use ov_rpc::{MessageText, Received};
@@ -55,7 +58,7 @@ fn push_key(alloc: Global, keys: &mut String, stepped: Stepped) -> Result<(), Fa
 /// The text of a frame, or `none`.
 fn frame_text(alloc: Global, frame: Option<Bytes>) -> Result<String, Fail> {
     match frame {
-        Some(frame) => Ok(String::from_utf8(frame.into_vec())?),
+        Some(frame) => text_of_frame(frame),
         None => Ok(String::from_str(alloc, "none")?),
     }
 }
@@ -81,8 +84,8 @@ impl Machine {
 
     /// Takes the message of a session.
     fn take(&mut self, alloc: Global, session: Session, text: &str) -> Result<String, Fail> {
-        let received = Received::read(alloc, Bytes::from_slice(alloc, text.as_bytes())?)?;
-        self.step(alloc, 0, Event::Take(session, received))
+        let message = received(alloc, text)?;
+        self.step(alloc, 0, Event::Take(session, message))
     }
 
     /// Takes an echo of session 1.
@@ -123,8 +126,7 @@ impl Machine {
 
     /// All frames that wait for a session.
     fn output(&mut self, alloc: Global, session: Session) -> Result<String, Fail> {
-        let output = self.core.take_output(alloc, session)?;
-        Ok(String::from_utf8(output.into_vec())?)
+        text_of_frame(self.core.take_output(alloc, session)?)
     }
 
     /// The moments of the history.
@@ -159,7 +161,7 @@ impl Machine {
     /// The answer to a command followed by a number and perhaps a text.
     fn act_on(&mut self, alloc: Global, command: &str) -> Result<String, Fail> {
         let (word, rest) = command.split_once(" ").ok_or("no number")?;
-        let (number, text) = rest.split_once(" ").unwrap_or((rest, ""));
+        let (number, text) = parts_of(rest);
         self.act(alloc, word, number.parse::<u64>()?, text)
     }
 }

@@ -1,8 +1,8 @@
 use crate::machine::net_core;
-use crate::texts::{fact_text, number_text};
+use crate::texts::{fact_text, number_text, text_of_frame};
 use ov_base::Bytes;
 use ov_streams::{StreamEvent, Streams};
-use std::alloc::Global;
+use std::alloc::{AllocError, Global};
 use std::test::Fail;
 use test_basics::{Counter, Faults, NetKeeper, Scripted, agrees};
 
@@ -16,17 +16,24 @@ struct Server {
     streams: Streams<NetKeeper, Counter>,
 }
 
+/// This event alone.
+fn only(alloc: Global, event: StreamEvent) -> Result<Vec<StreamEvent>, AllocError> {
+    let mut events = Vec::new(alloc);
+    events.push(event)?;
+    Ok(events)
+}
+
 impl Server {
     /// Opens session 1. If it is not opened, no conversation agrees.
     fn open(&mut self, alloc: Global) {
-        if let Ok(events) = vec![in alloc; StreamEvent::Open] {
+        if let Ok(events) = only(alloc, StreamEvent::Open) {
             self.streams.run(alloc, events);
         }
     }
 
     /// Serves one event, and returns whether it was served.
     fn run(&mut self, alloc: Global, event: StreamEvent) -> Result<String, Fail> {
-        let ran = self.streams.run(alloc, vec![in alloc; event]?);
+        let ran = self.streams.run(alloc, only(alloc, event)?);
         fact_text(alloc, ran.refused.is_none())
     }
 
@@ -43,7 +50,7 @@ impl Server {
         if output.as_slice() == want.as_bytes() {
             return Ok(String::new(alloc));
         }
-        Ok(String::from_utf8(output.into_vec())?)
+        text_of_frame(output)
     }
 
     /// How many entries the history has.

@@ -1,4 +1,6 @@
+use ov_base::Bytes;
 use ov_core::{Session, Stepped};
+use ov_rpc::Received;
 use std::alloc::Global;
 use std::test::Fail;
 
@@ -20,11 +22,30 @@ pub fn number_or_none(alloc: Global, number: Option<u64>) -> Result<String, Fail
     }
 }
 
+/// The parts of a text before and after its first space; the second is empty if it has none.
+pub(crate) fn parts_of(text: &str) -> (&str, &str) {
+    text.split_once(" ").unwrap_or((text, ""))
+}
+
+/// The text of a frame, or of several.
+pub(crate) fn text_of_frame(frame: Bytes) -> Result<String, Fail> {
+    Ok(String::from_utf8(frame.into_vec())?)
+}
+
+/// The message of a text.
+pub(crate) fn received(alloc: Global, text: &str) -> Result<Received, Fail> {
+    Ok(Received::read(alloc, Bytes::from_slice(alloc, text.as_bytes())?)?)
+}
+
+/// Adds a text. No caller keeps it, which makes their proofs smaller.
+pub(crate) fn push(text: &mut String, more: Result<String, Fail>) -> Result<(), Fail> {
+    Ok(text.push_str(more?.as_str())?)
+}
+
 /// Adds a number and a semicolon.
 pub(crate) fn push_number(alloc: Global, text: &mut String, number: u64) -> Result<(), Fail> {
-    let item = format!(in alloc; "{number};")?;
-    text.push_str(item.as_str())?;
-    Ok(())
+    push(text, number_text(alloc, number))?;
+    Ok(text.push_str(";")?)
 }
 
 /// The text of a fact: `true` or `false`.
