@@ -1,8 +1,8 @@
-use crate::rows::key_of;
-use crate::texts::{fact_text, number_text, owned};
+use crate::rows::{key_of, text_of_columns};
+use crate::texts::{fact_text, number_text, owned, push, two_parts};
 use ov_db::{Db, StoreAnswer};
 use ov_keeper::Line;
-use ov_rows::Row;
+use ov_rows::{Row, TableRows};
 use std::alloc::Global;
 use std::test::Fail;
 use test_basics::{Faults, NetKeeper, Scripted, agrees, follows, line_of, net, net_keeper, number};
@@ -37,13 +37,17 @@ pub(crate) fn new_database(alloc: Global) -> Result<Database, Fail> {
     opened(alloc, net_keeper(alloc, Faults::NONE)?)
 }
 
-/// The line of a switch with this number and name.
-fn line_of_switch(alloc: Global, put: &str) -> Result<Line, Fail> {
-    let (number, name) = put.split_once(" ").ok_or("no name")?;
-    let body = format!(in alloc;
-        "{{\"load\":4,\"main\":[\"set\",[]],\"name\":\"{name}\",\"ports\":[\"set\",[]]}}"
+/// The line of a switch with this number, version, name and load.
+pub(crate) fn line_of_switch(
+    alloc: Global,
+    number: &str,
+    version: &str,
+    name: &str,
+    load: &str,
+) -> Result<Line, Fail> {
+    let text = format!(in alloc;
+        "Switch {number} {version} {{\"load\":{load},\"main\":[\"set\",[]],\"name\":\"{name}\",\"ports\":[\"set\",[]]}}"
     )?;
-    let text = format!(in alloc; "Switch {number} 1 {body}")?;
     line_of(alloc, text.as_str())
 }
 
@@ -59,15 +63,25 @@ fn word_of(alloc: Global, answer: StoreAnswer) -> Result<String, Fail> {
 
 /// The text of a switch: its number and its body.
 fn text_of(alloc: Global, id: &Uuid, row: &Row) -> Result<String, Fail> {
-    let body = String::from_utf8(row.columns.text(alloc)?.into_vec())?;
+    let body = text_of_columns(alloc, &row.columns)?;
     let id = id.as_u128();
     Ok(format!(in alloc; "{id} {body};")?)
+}
+
+/// The text of switches.
+fn text_of_rows(alloc: Global, rows: &TableRows) -> Result<String, Fail> {
+    let mut text = String::new(alloc);
+    for (id, row) in rows.map() {
+        push(&mut text, text_of(alloc, id.as_uuid(), row))?;
+    }
+    Ok(text)
 }
 
 impl Database {
     /// Puts a switch.
     fn put(&mut self, alloc: Global, row: &str) -> Result<String, Fail> {
-        let line = line_of_switch(alloc, row)?;
+        let (number, name) = two_parts(row)?;
+        let line = line_of_switch(alloc, number, "1", name, "4")?;
         word_of(alloc, put_line(alloc, &mut self.db, &line)?)
     }
 
@@ -90,7 +104,7 @@ impl Database {
 
     /// The answer to a command for one row.
     fn act(&mut self, alloc: Global, command: &str) -> Result<String, Fail> {
-        let (word, row) = command.split_once(" ").ok_or("no number")?;
+        let (word, row) = two_parts(command)?;
         match word {
             "put" => self.put(alloc, row),
             "remove" => self.remove(alloc, row),
@@ -106,14 +120,10 @@ impl Database {
 
     /// The switches.
     fn switches(&self, alloc: Global) -> Result<String, Fail> {
-        let mut text = String::new(alloc);
-        let Some(rows) = self.db.rows_of("Switch") else {
-            return Ok(text);
-        };
-        for (id, row) in rows.map() {
-            text.push_str(text_of(alloc, id.as_uuid(), row)?.as_str())?;
+        match self.db.rows_of("Switch") {
+            Some(rows) => text_of_rows(alloc, rows),
+            None => Ok(String::new(alloc)),
         }
-        Ok(text)
     }
 }
 

@@ -1,4 +1,4 @@
-use crate::texts::{number_text, owned};
+use crate::texts::{number_of, number_text, owned, parts_of, text_of_bytes, two_parts};
 use ov_base::Bytes;
 use ov_locks::{LockFault, LockTable};
 use std::alloc::Global;
@@ -72,7 +72,7 @@ struct Locks {
 
 /// A session and the frame sent to it.
 fn sent(alloc: Global, session: u64, frame: Bytes) -> Result<String, Fail> {
-    let text = String::from_utf8(frame.into_vec())?;
+    let text = text_of_bytes(frame)?;
     Ok(format!(in alloc; "{session} {text}")?)
 }
 
@@ -125,14 +125,14 @@ impl Locks {
     }
 
     fn leave(&mut self, alloc: Global, session: &str) -> Result<String, Fail> {
-        self.table.leave_all(session.parse::<u64>()?);
+        self.table.leave_all(number_of(session)?);
         Ok(String::new(alloc))
     }
 
     /// Answers a session's request for the lock of a name.
     fn asked(&mut self, alloc: Global, word: &str, rest: &str) -> Result<String, Fail> {
-        let (session, name) = rest.split_once(" ").ok_or("no name")?;
-        let session = session.parse::<u64>()?;
+        let (session, name) = two_parts(rest)?;
+        let session = number_of(session)?;
         match word {
             "lock" => locked(alloc, self.table.lock(alloc, session, name)),
             "steal" => self.steal(alloc, session, name),
@@ -143,7 +143,7 @@ impl Locks {
 
 impl Scripted for Locks {
     fn answer(&mut self, alloc: Global, command: &str) -> Result<String, Fail> {
-        let (word, rest) = command.split_once(" ").unwrap_or((command, ""));
+        let (word, rest) = parts_of(command);
         match word {
             "freed" => freed(alloc, self.table.next_freed()),
             "owner" => owner_text(alloc, self.table.owner(rest)),
@@ -188,14 +188,19 @@ lock 1 N -> resources exhausted
 leave 1
 lock 1 N -> locked"#;
 
+/// Session 1 asks for a lock, which session 2 owns if it is taken.
+fn ask_for(alloc: Global, table: &mut LockTable, is_taken: bool, name: &str) -> Result<(), Fail> {
+    if is_taken {
+        table.lock(alloc, 2, name)?;
+    }
+    table.lock(alloc, 1, name)?;
+    Ok(())
+}
+
 /// Session 1 asks for a lock, which it does not own if the lock's number is even.
 fn ask_for_one(alloc: Global, table: &mut LockTable, number: u64) -> Result<(), Fail> {
     let name = format!(in alloc; "L{number}")?;
-    if number % 2 == 0 {
-        table.lock(alloc, 2, name.as_str())?;
-    }
-    table.lock(alloc, 1, name.as_str())?;
-    Ok(())
+    ask_for(alloc, table, number % 2 == 0, name.as_str())
 }
 
 /// Session 1 asks for 256 locks.

@@ -1,16 +1,15 @@
-use crate::databases::{Database, new_database};
-use crate::texts::owned;
-use ov_base::{Tree, Trees};
+use crate::databases::{Database, line_of_switch, new_database};
+use crate::texts::{initial_text, number_text, owned, parts_of, two_parts, updates_text};
 use ov_db::{Db, Delta, row_of};
 use ov_keeper::Line;
-use ov_rows::RowKey;
+use ov_rows::{Row, RowKey};
 use ov_schema::Schema;
 use ov_stage::Stage;
 use ov_watch::{Monitors, WatchFault};
-use std::alloc::Global;
+use std::alloc::{AllocError, Global};
 use std::mem;
 use std::test::Fail;
-use test_basics::{NetKeeper, Scripted, agrees, compact, line_of, net, number, tree, value};
+use test_basics::{NetKeeper, Scripted, agrees, net, number, tree, value};
 use test_commits::{put_line, remove_row};
 use uuid::Uuid;
 
@@ -138,16 +137,23 @@ impl Drop for Watching {
     }
 }
 
-/// The line of a switch with this number, version, name and load.
-fn line_of_switch(alloc: Global, put: &str) -> Result<Line, Fail> {
-    let (number, rest) = put.split_once(" ").ok_or("no version")?;
-    let (version, rest) = rest.split_once(" ").ok_or("no name")?;
-    let (name, load) = rest.split_once(" ").ok_or("no load")?;
-    let body = format!(in alloc;
-        "{{\"load\":{load},\"main\":[\"set\",[]],\"name\":\"{name}\",\"ports\":[\"set\",[]]}}"
-    )?;
-    let text = format!(in alloc; "Switch {number} {version} {body}")?;
-    line_of(alloc, text.as_str())
+/// The line of a switch: its number, version, name and load.
+fn line_to_put(alloc: Global, put: &str) -> Result<Line, Fail> {
+    let (number, rest) = two_parts(put)?;
+    let (version, rest) = two_parts(rest)?;
+    let (name, load) = two_parts(rest)?;
+    line_of_switch(alloc, number, version, name, load)
+}
+
+/// Puts the row of a line within a transaction.
+fn stage_columns(
+    alloc: Global,
+    stage: &mut Stage<'_>,
+    line: &Line,
+    row: &Row,
+) -> Result<(), AllocError> {
+    let key = RowKey::new(alloc, line.table.as_str(), line.id)?;
+    stage.put(key, line.version, row.columns.copy(alloc)?)
 }
 
 /// Puts a row within a transaction.
@@ -158,16 +164,13 @@ fn stage_row(
     line: &Line,
 ) -> Result<(), Fail> {
     let row = row_of(alloc, db.schema(), line)?;
-    let key = RowKey::new(alloc, line.table.as_str(), line.id)?;
-    stage.put(key, line.version, row.columns.copy(alloc)?)?;
+    stage_columns(alloc, stage, line, &row)?;
     Ok(())
 }
 
 /// Removes a switch within a transaction.
-fn stage_removal(alloc: Global, stage: &mut Stage<'_>, id: Uuid) -> Result<(), Fail> {
-    let key = RowKey::new(alloc, "Switch", id)?;
-    stage.remove(key)?;
-    Ok(())
+fn stage_removal(alloc: Global, stage: &mut Stage<'_>, id: Uuid) -> Result<(), AllocError> {
+    stage.remove(RowKey::new(alloc, "Switch", id)?)
 }
 
 /// Makes a change within a transaction.
@@ -179,7 +182,7 @@ fn stage_change(
 ) -> Result<(), Fail> {
     match change {
         Change::Put(line) => stage_row(alloc, db, stage, line),
-        Change::Remove(id) => stage_removal(alloc, stage, *id),
+        Change::Remove(id) => Ok(stage_removal(alloc, stage, *id)?),
     }
 }
 
@@ -198,38 +201,6 @@ fn commit_each(alloc: Global, db: &mut Db<NetKeeper>, changes: &[Change]) -> Res
         commit_change(alloc, db, change)?;
     }
     Ok(())
-}
-
-/// Adds the params of an update, with a space before all but the first.
-fn push_update(alloc: Global, text: &mut String, params: Trees) -> Result<(), Fail> {
-    if !text.is_empty() {
-        text.push_str(" ")?;
-    }
-    push_tree(alloc, text, &params.into_tree())
-}
-
-/// Adds the text of a tree.
-fn push_tree(alloc: Global, text: &mut String, tree: &Tree) -> Result<(), Fail> {
-    let item = compact(alloc, tree)?;
-    text.push_str(item.as_str())?;
-    Ok(())
-}
-
-/// The params of updates, with a space between them.
-fn text_of(alloc: Global, updates: Vec<Trees>) -> Result<String, Fail> {
-    let mut text = String::new(alloc);
-    for params in updates {
-        push_update(alloc, &mut text, params)?;
-    }
-    Ok(text)
-}
-
-/// The text of a monitor's initial rows.
-fn first_text(alloc: Global, told: Option<Tree>) -> Result<String, Fail> {
-    match told {
-        Some(told) => compact(alloc, &told),
-        None => Err(Fail::new("no monitor")),
-    }
 }
 
 /// That a monitor was canceled, or why not.
@@ -253,12 +224,12 @@ impl Watching {
     fn first(&self, alloc: Global, id: &str) -> Result<String, Fail> {
         let id = tree(alloc, id)?;
         let told = self.monitors.initial(alloc, &self.database.db, &id)?;
-        first_text(alloc, told)
+        initial_text(alloc, told)
     }
 
     /// Adds a monitor and returns its initial rows.
     fn monitor(&mut self, alloc: Global, asked: &str) -> Result<String, Fail> {
-        let (id, requests) = asked.split_once(" ").ok_or("no requests")?;
+        let (id, requests) = two_parts(asked)?;
         match self.add(alloc, id, requests)? {
             None => self.first(alloc, id),
             Some(fault) => owned(alloc, fault.text()),
@@ -270,14 +241,20 @@ impl Watching {
         canceled_text(alloc, self.monitors.cancel(alloc, &id))
     }
 
-    fn put(&mut self, alloc: Global, row: &str) -> Result<String, Fail> {
-        self.changes.push(Change::Put(line_of_switch(alloc, row)?))?;
+    /// Keeps a change for the next commit.
+    fn change(&mut self, alloc: Global, change: Change) -> Result<String, Fail> {
+        self.changes.push(change)?;
         Ok(String::new(alloc))
     }
 
+    fn put(&mut self, alloc: Global, row: &str) -> Result<String, Fail> {
+        let line = line_to_put(alloc, row)?;
+        self.change(alloc, Change::Put(line))
+    }
+
     fn remove(&mut self, alloc: Global, id: &str) -> Result<String, Fail> {
-        self.changes.push(Change::Remove(number(id)?))?;
-        Ok(String::new(alloc))
+        let id = number(id)?;
+        self.change(alloc, Change::Remove(id))
     }
 
     /// The delta of a transaction that makes the changes.
@@ -294,7 +271,7 @@ impl Watching {
     fn told(&self, alloc: Global) -> Result<String, Fail> {
         let delta = self.delta(alloc)?;
         let updates = self.monitors.updates(alloc, &self.database.db, &delta)?;
-        text_of(alloc, updates)
+        updates_text(alloc, updates)
     }
 
     /// Commits the changes.
@@ -313,7 +290,7 @@ impl Watching {
 
 impl Scripted for Watching {
     fn answer(&mut self, alloc: Global, command: &str) -> Result<String, Fail> {
-        let (word, rest) = command.split_once(" ").unwrap_or((command, ""));
+        let (word, rest) = parts_of(command);
         match word {
             "monitor" => self.monitor(alloc, rest),
             "cancel" => self.cancel(alloc, rest),
@@ -378,6 +355,18 @@ monitor 64 {"Swich":[]} -> unknown table
 monitor 64 {} -> {}
 monitor 7 {} -> resources exhausted"#;
 
+/// Adds a monitor of no table with this name.
+fn add_named(
+    alloc: Global,
+    schema: &Schema,
+    monitors: &mut Monitors,
+    id: &str,
+) -> Result<(), Fail> {
+    let nothing = value(alloc, "{}")?;
+    monitors.add(alloc, schema, tree(alloc, id)?, &nothing)?;
+    Ok(())
+}
+
 /// Adds a monitor of no table, named by a number.
 fn add_one(
     alloc: Global,
@@ -385,10 +374,8 @@ fn add_one(
     monitors: &mut Monitors,
     number: u64,
 ) -> Result<(), Fail> {
-    let nothing = value(alloc, "{}")?;
-    let id = format!(in alloc; "{number}")?;
-    monitors.add(alloc, schema, tree(alloc, id.as_str())?, &nothing)?;
-    Ok(())
+    let id = number_text(alloc, number)?;
+    add_named(alloc, schema, monitors, id.as_str())
 }
 
 /// Adds as many monitors as a session may have.

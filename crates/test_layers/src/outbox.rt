@@ -3,7 +3,7 @@
 ghost use Rattle.std.specs.Prelude.{◌≡◌, ◌≤◌, ◌+◌, ℕ, IfOk};
 ghost use Rattle.ov_outbox.specs.Frames.{count_for, places_for};
 
-use crate::texts::{fact_text, owned};
+use crate::texts::{fact_text, number_of, owned, parts_of, text_of_bytes, two_parts};
 use ov_base::Bytes;
 use ov_locks::{LockCall, LockFault};
 use ov_outbox::{FrameQueues, Outbox, Prepared};
@@ -15,8 +15,8 @@ use test_basics::{Scripted, agrees, tree};
 /// The text of a frame, if there is one.
 fn text_of(alloc: Global, frame: Option<Bytes>) -> Result<String, Fail> {
     match frame {
-        Some(frame) => Ok(String::from_utf8(frame.into_vec())?),
-        None => Ok(String::from_str(alloc, "none")?),
+        Some(frame) => text_of_bytes(frame),
+        None => owned(alloc, "none"),
     }
 }
 
@@ -84,31 +84,36 @@ impl Frames {
     }
 
     /// Sends the prepared frames.
-    fn release(&mut self, alloc: Global) -> Result<(), Fail> {
+    fn release(&mut self, alloc: Global) -> Result<String, Fail> {
         let prepared = prepare_three(alloc, &mut self.queues)?;
         prepared.release(&mut self.queues);
-        Ok(())
+        Ok(String::new(alloc))
     }
 
     /// Sends a frame in place of the last prepared one.
-    fn release_instead(&mut self, alloc: Global, text: &str) -> Result<(), Fail> {
+    fn release_instead(&mut self, alloc: Global, text: &str) -> Result<String, Fail> {
         let frame = frame_of(alloc, text)?;
         let prepared = prepare_three(alloc, &mut self.queues)?;
         prepared.release_instead(&mut self.queues, frame);
-        Ok(())
+        Ok(String::new(alloc))
     }
 
     /// Sends none of the prepared frames.
-    fn withdraw(&mut self, alloc: Global) -> Result<(), Fail> {
+    fn withdraw(&mut self, alloc: Global) -> Result<String, Fail> {
         let prepared = prepare_three(alloc, &mut self.queues)?;
         prepared.give_up(&mut self.queues);
-        Ok(())
+        Ok(String::new(alloc))
     }
 
     /// Sends a frame, unless an allocation fails.
     fn push(&mut self, alloc: Global, session: u64, text: &str) -> Result<String, Fail> {
         let frame = frame_of(alloc, text)?;
         fact_text(alloc, self.queues.push(alloc, session, frame))
+    }
+
+    /// All frames that wait for a session.
+    fn joined(&self, alloc: Global, session: u64) -> Result<String, Fail> {
+        text_of_bytes(self.queues.joined_for(alloc, session)?)
     }
 
     /// The answer to a session's command that has one.
@@ -124,29 +129,44 @@ impl Frames {
             "keep" => fact_text(alloc, self.queues.keep_place(alloc, session)),
             "kept" => self.kept(alloc, session, text),
             "pop" => text_of(alloc, self.queues.pop(session)),
-            "joined" => text_of(alloc, Some(self.queues.joined_for(alloc, session)?)),
+            "joined" => self.joined(alloc, session),
             "empty" => fact_text(alloc, self.queues.is_empty(session)),
             _ => Err(Fail::new("no command")),
         }
+    }
+
+    /// Carries out a session's command that has no answer. False if it is none of these.
+    fn does(&mut self, word: &str, session: u64) -> bool {
+        match word {
+            "give_up" => self.queues.give_up_place(session),
+            "give_up_all" => self.queues.give_up_places(session),
+            "clear" => self.queues.clear(session),
+            "drop" => self.queues.drop_queue(session),
+            _ => return false,
+        }
+        true
+    }
+
+    /// The answer to a session's command.
+    fn act(&mut self, alloc: Global, word: &str, session: u64, text: &str) -> Result<String, Fail> {
+        if self.does(word, session) {
+            return Ok(String::new(alloc));
+        }
+        self.tell(alloc, word, session, text)
     }
 }
 
 impl Scripted for Frames {
     fn answer(&mut self, alloc: Global, command: &str) -> Result<String, Fail> {
         let (word, rest) = command.split_once(" ").unwrap_or((command, "0"));
-        let (session, text) = rest.split_once(" ").unwrap_or((rest, ""));
-        let session = session.parse::<u64>()?;
+        let (session, text) = parts_of(rest);
+        let session = number_of(session)?;
         match word {
-            "give_up" => self.queues.give_up_place(session),
-            "give_up_all" => self.queues.give_up_places(session),
-            "clear" => self.queues.clear(session),
-            "drop" => self.queues.drop_queue(session),
-            "release" => self.release(alloc)?,
-            "instead" => self.release_instead(alloc, text)?,
-            "withdraw" => self.withdraw(alloc)?,
-            _ => return self.tell(alloc, word, session, text),
+            "release" => self.release(alloc),
+            "instead" => self.release_instead(alloc, text),
+            "withdraw" => self.withdraw(alloc),
+            _ => self.act(alloc, word, session, text),
         }
-        Ok(String::new(alloc))
     }
 }
 
@@ -235,7 +255,7 @@ impl Sending {
         session: u64,
         text: &str,
     ) -> Result<String, Fail> {
-        let (id, name) = text.split_once(" ").ok_or("no name")?;
+        let (id, name) = two_parts(text)?;
         let id = tree(alloc, id)?;
         asked_text(alloc, self.outbox.ask(alloc, call, session, &id, name))
     }
@@ -244,6 +264,11 @@ impl Sending {
     fn push(&mut self, alloc: Global, session: u64, text: &str) -> Result<String, Fail> {
         let frame = frame_of(alloc, text)?;
         fact_text(alloc, self.outbox.push(alloc, session, frame))
+    }
+
+    /// All frames that wait for a session.
+    fn joined(&self, alloc: Global, session: u64) -> Result<String, Fail> {
+        text_of_bytes(self.outbox.joined_for(alloc, session)?)
     }
 
     /// The answer to a session's command that has one.
@@ -261,7 +286,7 @@ impl Sending {
             "owns" => fact_text(alloc, self.outbox.owns(session, text)),
             "push" => self.push(alloc, session, text),
             "pop" => text_of(alloc, self.outbox.pop(session)),
-            "joined" => text_of(alloc, Some(self.outbox.joined_for(alloc, session)?)),
+            "joined" => self.joined(alloc, session),
             _ => Err(Fail::new("no command")),
         }
     }
@@ -271,21 +296,29 @@ impl Sending {
         let outbox = mem::replace(&mut self.outbox, Outbox::new(alloc));
         self.outbox = taken_apart(outbox);
     }
-}
 
-impl Scripted for Sending {
-    fn answer(&mut self, alloc: Global, command: &str) -> Result<String, Fail> {
-        let (word, rest) = command.split_once(" ").ok_or("no session")?;
-        let (session, text) = rest.split_once(" ").unwrap_or((rest, ""));
-        let session = session.parse::<u64>()?;
+    /// Carries out a session's command that has no answer. False if it is none of these.
+    fn does(&mut self, alloc: Global, word: &str, session: u64) -> bool {
         match word {
             "leave" => self.outbox.leave(session),
             "clear" => self.outbox.clear(session),
             "forget" => self.outbox.forget(session),
             "apart" => self.take_apart(alloc),
-            _ => return self.tell(alloc, word, session, text),
+            _ => return false,
         }
-        Ok(String::new(alloc))
+        true
+    }
+}
+
+impl Scripted for Sending {
+    fn answer(&mut self, alloc: Global, command: &str) -> Result<String, Fail> {
+        let (word, rest) = two_parts(command)?;
+        let (session, text) = parts_of(rest);
+        let session = number_of(session)?;
+        if self.does(alloc, word, session) {
+            return Ok(String::new(alloc));
+        }
+        self.tell(alloc, word, session, text)
     }
 }
 

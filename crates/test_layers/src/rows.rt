@@ -1,10 +1,12 @@
-use crate::texts::{fact_text, number_text, owned, push_item};
+use crate::texts::{
+    fact_text, number_text, owned, parts_of, push_item, push_made_item, text_of_bytes, two_parts,
+};
 use ov_atoms::{Atom, Datum, write_datum};
 use ov_base::Text;
 use ov_db::Delta;
 use ov_rows::{Columns, NamedValues, Row, RowKey, Rows, TableRows};
 use ov_schema::Table;
-use std::alloc::Global;
+use std::alloc::{AllocError, Global};
 use std::mem;
 use std::test::Fail;
 use test_basics::{Scripted, agrees, is_text, net, number, switch};
@@ -16,8 +18,8 @@ get id -> none
 text -> {"load":4,"main":["set",[]],"name":"s1","ports":["set",[]]}"#;
 
 /// The text of a row's columns.
-fn text_of(alloc: Global, columns: &Columns) -> Result<String, Fail> {
-    Ok(String::from_utf8(columns.text(alloc)?.into_vec())?)
+pub(crate) fn text_of_columns(alloc: Global, columns: &Columns) -> Result<String, Fail> {
+    text_of_bytes(columns.text(alloc)?)
 }
 
 /// The columns of a row. The commands are `get NAME` and `text`.
@@ -41,14 +43,19 @@ impl Scripted for Cells {
     fn answer(&mut self, alloc: Global, command: &str) -> Result<String, Fail> {
         match command.split_once(" ") {
             Some(("get", name)) => owned(alloc, self.get(name)),
-            _ => text_of(alloc, &self.columns),
+            _ => text_of_columns(alloc, &self.columns),
         }
     }
 }
 
+/// The columns of a switch with this load.
+pub(crate) fn columns_of_switch(alloc: Global, load: i64) -> Result<Columns, AllocError> {
+    switch(alloc, "s1", load)?.columns.copy(alloc)
+}
+
 #[test]
 fn columns_are_found_by_name_and_written_in_order(rt: HostRuntime) -> Result<(), Fail> {
-    let columns = switch(rt.alloc(), "s1", 4)?.columns.copy(rt.alloc())?;
+    let columns = columns_of_switch(rt.alloc(), 4)?;
     agrees(rt.alloc(), Cells { columns }, COLUMNS)
 }
 
@@ -68,13 +75,27 @@ struct Gathered {
     values: NamedValues,
 }
 
+/// The value of a text.
+fn datum_of(alloc: Global, text: &str) -> Result<Datum, AllocError> {
+    Ok(Datum::of_atom(Atom::Text(Text::from_str(alloc, text)?)))
+}
+
+/// Puts a text in a column.
+fn put_text(
+    alloc: Global,
+    values: &mut NamedValues,
+    name: &str,
+    text: &str,
+) -> Result<(), AllocError> {
+    let datum = datum_of(alloc, text)?;
+    values.insert(String::from_str(alloc, name)?, datum)
+}
+
 impl Gathered {
     /// Puts a text in a column.
     fn put(&mut self, alloc: Global, cell: &str) -> Result<String, Fail> {
-        let (name, text) = cell.split_once(" ").ok_or("no text")?;
-        let name = String::from_str(alloc, name)?;
-        let datum = Datum::of_atom(Atom::Text(Text::from_str(alloc, text)?));
-        self.values.insert(name, datum)?;
+        let (name, text) = two_parts(cell)?;
+        put_text(alloc, &mut self.values, name, text)?;
         Ok(String::new(alloc))
     }
 
@@ -82,13 +103,13 @@ impl Gathered {
     fn text(&mut self, alloc: Global) -> Result<String, Fail> {
         let values = mem::replace(&mut self.values, NamedValues::new(alloc));
         let columns = Columns::with_own_names(alloc, values)?;
-        text_of(alloc, &columns)
+        text_of_columns(alloc, &columns)
     }
 }
 
 impl Scripted for Gathered {
     fn answer(&mut self, alloc: Global, command: &str) -> Result<String, Fail> {
-        let (word, rest) = command.split_once(" ").unwrap_or((command, ""));
+        let (word, rest) = parts_of(command);
         match word {
             "put" => self.put(alloc, rest),
             "has" => fact_text(alloc, self.values.contains(rest)),
@@ -103,14 +124,23 @@ fn values_are_gathered_by_their_names(rt: HostRuntime) -> Result<(), Fail> {
     agrees(rt.alloc(), Gathered { values }, GATHERED)
 }
 
+/// The text of a value.
+fn text_of_datum(alloc: Global, datum: &Datum) -> Result<String, Fail> {
+    Ok(write_datum(alloc, datum)?.to_string(alloc)?)
+}
+
+/// Adds the name of a column, followed by its default.
+fn push_column(alloc: Global, text: &mut String, name: &str, default: &Datum) -> Result<(), Fail> {
+    push_item(text, name)?;
+    push_made_item(text, text_of_datum(alloc, default))
+}
+
 /// The names of a row's columns, each followed by its default, as all rows of the table share them.
 fn shape_text(alloc: Global, table: &Table) -> Result<String, Fail> {
     let shape = table.row_shape().share()?;
     let mut text = String::new(alloc);
     for (name, default) in shape.names().iter().zip(shape.defaults()) {
-        push_item(&mut text, name.as_str())?;
-        let value = write_datum(alloc, default)?.to_string(alloc)?;
-        push_item(&mut text, value.as_str())?;
+        push_column(alloc, &mut text, name.as_str(), default)?;
     }
     Ok(text)
 }
@@ -130,7 +160,7 @@ fn names_and_defaults_are_shared(rt: HostRuntime) -> Result<(), Fail> {
 
 /// The key of a table and a number.
 pub(crate) fn key_of(alloc: Global, key: &str) -> Result<RowKey, Fail> {
-    let (table, id) = key.split_once(" ").ok_or("no identifier")?;
+    let (table, id) = two_parts(key)?;
     Ok(RowKey::new(alloc, table, number(id)?)?)
 }
 
@@ -246,12 +276,17 @@ fn word_of(change: Option<&Option<Row>>) -> &'static str {
     }
 }
 
+/// Puts a switch at a key.
+pub(crate) fn put_switch(alloc: Global, delta: &mut Delta, key: RowKey) -> Result<(), AllocError> {
+    let row = switch(alloc, "s1", 4)?;
+    delta.insert(key, Some(row))
+}
+
 impl Changing {
     /// Puts a row at the key.
     fn put(&mut self, alloc: Global, key: &str) -> Result<String, Fail> {
         let key = key_of(alloc, key)?;
-        let row = switch(alloc, "s1", 4)?;
-        self.delta.insert(key, Some(row))?;
+        put_switch(alloc, &mut self.delta, key)?;
         Ok(String::new(alloc))
     }
 
@@ -271,7 +306,7 @@ impl Changing {
 
 impl Scripted for Changing {
     fn answer(&mut self, alloc: Global, command: &str) -> Result<String, Fail> {
-        let (word, key) = command.split_once(" ").unwrap_or((command, ""));
+        let (word, key) = parts_of(command);
         match word {
             "put" => self.put(alloc, key),
             "remove" => self.remove(alloc, key),

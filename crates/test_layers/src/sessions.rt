@@ -1,15 +1,17 @@
 //! The open sessions and their monitors, call by call.
 
 use crate::databases::{Database, new_database};
-use crate::texts::{fact_text, number_text, owned, push_item};
-use ov_base::{Tree, Trees};
+use crate::rows::{key_of, put_switch};
+use crate::texts::{
+    fact_text, initial_text, number_of, number_text, owned, parts_of, push_made_item, two_parts,
+    updates_text,
+};
 use ov_db::Delta;
-use ov_rows::RowKey;
 use ov_sessions::{Session, Sessions};
 use ov_watch::{WatchFault, Watchers};
 use std::alloc::Global;
 use std::test::Fail;
-use test_basics::{Scripted, agrees, compact, number, switch, tree, value};
+use test_basics::{Scripted, agrees, tree, value};
 
 /// Sessions, driven by a script. The commands are `open`, `close SERIAL`, `is_open SERIAL`, `free`, `full`, `next` and
 /// `serials`.
@@ -22,12 +24,6 @@ struct Opening {
 fn session_text(alloc: Global, session: Session) -> Result<String, Fail> {
     let Session { key, serial } = session;
     Ok(format!(in alloc; "{key} {serial}")?)
-}
-
-/// Adds a serial.
-fn push_serial(alloc: Global, text: &mut String, serial: u64) -> Result<(), Fail> {
-    let item = number_text(alloc, serial)?;
-    push_item(text, item.as_str())
 }
 
 /// A serial, or that there is none.
@@ -48,12 +44,12 @@ impl Opening {
     }
 
     fn close(&mut self, alloc: Global, serial: &str) -> Result<String, Fail> {
-        self.sessions.close(serial.parse::<u64>()?);
+        self.sessions.close(number_of(serial)?);
         Ok(String::new(alloc))
     }
 
     fn is_open(&self, alloc: Global, serial: &str) -> Result<String, Fail> {
-        let serial = serial.parse::<u64>()?;
+        let serial = number_of(serial)?;
         fact_text(alloc, self.sessions.is_open(serial))
     }
 
@@ -61,7 +57,7 @@ impl Opening {
     fn serials(&self, alloc: Global) -> Result<String, Fail> {
         let mut text = String::new(alloc);
         for serial in self.sessions.serials() {
-            push_serial(alloc, &mut text, *serial)?;
+            push_made_item(&mut text, number_text(alloc, *serial))?;
         }
         Ok(text)
     }
@@ -69,13 +65,14 @@ impl Opening {
 
 impl Scripted for Opening {
     fn answer(&mut self, alloc: Global, command: &str) -> Result<String, Fail> {
-        match command.split_once(" ").unwrap_or((command, "")) {
-            ("open", _) => self.open(alloc),
-            ("close", serial) => self.close(alloc, serial),
-            ("is_open", serial) => self.is_open(alloc, serial),
-            ("free", _) => number_text(alloc, self.sessions.free_places() as u64),
-            ("full", _) => fact_text(alloc, self.sessions.is_full()),
-            ("next", _) => serial_text(alloc, self.sessions.next_serial()),
+        let (word, serial) = parts_of(command);
+        match word {
+            "open" => self.open(alloc),
+            "close" => self.close(alloc, serial),
+            "is_open" => self.is_open(alloc, serial),
+            "free" => number_text(alloc, self.sessions.free_places() as u64),
+            "full" => fact_text(alloc, self.sessions.is_full()),
+            "next" => serial_text(alloc, self.sessions.next_serial()),
             _ => self.serials(alloc),
         }
     }
@@ -121,22 +118,6 @@ impl Drop for Watching {
     }
 }
 
-/// Adds the text of a tree.
-fn push_tree(alloc: Global, text: &mut String, tree: &Tree) -> Result<(), Fail> {
-    let item = compact(alloc, tree)?;
-    text.push_str(item.as_str())?;
-    Ok(())
-}
-
-/// The params of updates.
-fn text_of(alloc: Global, updates: Vec<Trees>) -> Result<String, Fail> {
-    let mut text = String::new(alloc);
-    for params in updates {
-        push_tree(alloc, &mut text, &params.into_tree())?;
-    }
-    Ok(text)
-}
-
 /// Nothing, or why a call of the monitors is refused.
 fn done_text(alloc: Global, done: Result<(), WatchFault>) -> Result<String, Fail> {
     match done {
@@ -145,18 +126,10 @@ fn done_text(alloc: Global, done: Result<(), WatchFault>) -> Result<String, Fail
     }
 }
 
-/// The text of a monitor's initial rows, or that there is no such monitor.
-fn first_text(alloc: Global, told: Option<Tree>) -> Result<String, Fail> {
-    match told {
-        Some(told) => compact(alloc, &told),
-        None => owned(alloc, "none"),
-    }
-}
-
 impl Watching {
     /// Adds a monitor.
     fn add(&mut self, alloc: Global, session: u64, asked: &str) -> Result<String, Fail> {
-        let (id, requests) = asked.split_once(" ").ok_or("no requests")?;
+        let (id, requests) = two_parts(asked)?;
         let requests = value(alloc, requests)?;
         let id = tree(alloc, id)?;
         let schema = self.database.db.schema();
@@ -176,7 +149,7 @@ impl Watching {
         let told = self
             .watchers
             .initial(alloc, &self.database.db, session, &id)?;
-        first_text(alloc, told)
+        initial_text(alloc, told)
     }
 
     /// The updates with which a session's monitors report the change.
@@ -185,7 +158,7 @@ impl Watching {
         let updates = self
             .watchers
             .updates(alloc, &self.database.db, &delta, session)?;
-        text_of(alloc, updates)
+        updates_text(alloc, updates)
     }
 
     fn leave(&mut self, alloc: Global, session: u64) -> Result<String, Fail> {
@@ -196,9 +169,9 @@ impl Watching {
 
 impl Scripted for Watching {
     fn answer(&mut self, alloc: Global, command: &str) -> Result<String, Fail> {
-        let (word, rest) = command.split_once(" ").ok_or("no session")?;
-        let (session, text) = rest.split_once(" ").unwrap_or((rest, ""));
-        let session = session.parse::<u64>()?;
+        let (word, rest) = two_parts(command)?;
+        let (session, text) = parts_of(rest);
+        let session = number_of(session)?;
         match word {
             "add" => self.add(alloc, session, text),
             "cancel" => self.cancel(alloc, session, text),
@@ -237,10 +210,9 @@ empty 0 -> true"#;
 
 /// The change that puts switch 1.
 fn one_switch(alloc: Global) -> Result<Delta, Fail> {
-    let key = RowKey::new(alloc, "Switch", number("1")?)?;
-    let row = switch(alloc, "s1", 4)?;
+    let key = key_of(alloc, "Switch 1")?;
     let mut delta = Delta::new(alloc);
-    delta.insert(key, Some(row))?;
+    put_switch(alloc, &mut delta, key)?;
     Ok(delta)
 }
 

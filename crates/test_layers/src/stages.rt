@@ -1,5 +1,5 @@
-use crate::rows::Standing;
-use crate::texts::{fact_text, number_text, owned, push_item};
+use crate::rows::{Standing, columns_of_switch};
+use crate::texts::{fact_text, number_text, owned, parts_of, push, push_item, two_parts};
 use ov_atoms::NoNames;
 use ov_base::Text;
 use ov_conds::Condition;
@@ -8,10 +8,11 @@ use ov_rows::{RowKey, RowView, Rows};
 use ov_schema::{Schema, Table};
 use ov_stage::{Stage, conditions_of};
 use serde_json::Value;
-use std::alloc::Global;
+use std::alloc::{AllocError, Global};
 use std::mem;
 use std::test::Fail;
-use test_basics::{Scripted, agrees, compact, follows, net, number, switch};
+use test_basics::{Scripted, agrees, compact, follows, net, number, value};
+use uuid::Uuid;
 
 /// Rows are put and removed, and put back as they were, which leaves no change.
 const STAGED: &str = r#"where [] -> 3/1;9/1;
@@ -133,9 +134,7 @@ fn push_shown(
     row: &RowView<'_>,
 ) -> Result<(), Fail> {
     let tree = shown_tree(alloc, names, row)?;
-    let item = compact(alloc, &tree)?;
-    text.push_str(item.as_str())?;
-    Ok(())
+    push(text, compact(alloc, &tree))
 }
 
 /// The rows' columns with these names.
@@ -149,20 +148,39 @@ fn shown_of(alloc: Global, names: &[Text], rows: &[RowView<'_>]) -> Result<Strin
 
 /// A table's columns with these names, or all of them.
 fn compared_of(alloc: Global, table: &Table, names: &str) -> Result<String, Fail> {
-    let tree = Value::from_str(alloc, names)?;
+    let tree = value(alloc, names)?;
     names_of(alloc, compared_columns(alloc, table, Some(&tree)))
 }
 
 impl Staged<'_> {
+    /// Puts a switch with this version and load.
+    fn put_switch(
+        &mut self,
+        alloc: Global,
+        key: RowKey,
+        version: Uuid,
+        load: i64,
+    ) -> Result<(), AllocError> {
+        let columns = columns_of_switch(alloc, load)?;
+        self.stage.put(key, version, columns)
+    }
+
     fn put(&mut self, alloc: Global, row: &str) -> Result<String, Fail> {
-        let (id, rest) = row.split_once(" ").ok_or("no version")?;
-        let (version, load) = rest.split_once(" ").ok_or("no load")?;
+        let (id, rest) = two_parts(row)?;
+        let (version, load) = two_parts(rest)?;
         let load = load.parse::<i64>()?;
         let version = number(version)?;
         let key = switch_key(alloc, id)?;
-        let columns = switch(alloc, "s1", load)?.columns.copy(alloc)?;
-        self.stage.put(key, version, columns)?;
+        self.put_switch(alloc, key, version, load)?;
         Ok(String::new(alloc))
+    }
+
+    /// The table of the switches.
+    fn table(&self) -> Result<&Table, Fail> {
+        match self.schema.table("Switch") {
+            Some(table) => Ok(table),
+            None => Err(Fail::new("no table")),
+        }
     }
 
     fn remove(&mut self, alloc: Global, id: &str) -> Result<String, Fail> {
@@ -184,7 +202,7 @@ impl Staged<'_> {
 
     /// The rows that meet the conditions of these items.
     fn meeting(&self, alloc: Global, items: &[Value]) -> Result<String, Fail> {
-        let table = self.schema.table("Switch").ok_or("no table")?;
+        let table = self.table()?;
         let Ok(conditions) = conditions_of(alloc, table, items, &NoNames) else {
             return Err(Fail::new("refused"));
         };
@@ -193,20 +211,22 @@ impl Staged<'_> {
 
     /// The rows that meet the conditions.
     fn found(&self, alloc: Global, conditions: &str) -> Result<String, Fail> {
-        let tree = Value::from_str(alloc, conditions)?;
-        let items = tree.as_array().ok_or("no array")?;
-        self.meeting(alloc, items.as_slice())
+        let tree = value(alloc, conditions)?;
+        match tree.as_array() {
+            Some(items) => self.meeting(alloc, items.as_slice()),
+            None => Err(Fail::new("no array")),
+        }
     }
 
     fn listed(&self, alloc: Global, names: &str) -> Result<String, Fail> {
-        let table = self.schema.table("Switch").ok_or("no table")?;
-        let tree = Value::from_str(alloc, names)?;
+        let table = self.table()?;
+        let tree = value(alloc, names)?;
         names_of(alloc, listed_columns(alloc, table, &tree))
     }
 
     /// The compared columns with these names; without names, all.
     fn compared(&self, alloc: Global, names: &str) -> Result<String, Fail> {
-        let table = self.schema.table("Switch").ok_or("no table")?;
+        let table = self.table()?;
         if names.is_empty() {
             return names_of(alloc, compared_columns(alloc, table, None));
         }
@@ -233,8 +253,8 @@ impl Staged<'_> {
 
     /// The columns with these names, all of which must exist.
     fn chosen(&self, alloc: Global, names: &str) -> Result<Vec<Text>, Fail> {
-        let table = self.schema.table("Switch").ok_or("no table")?;
-        let tree = Value::from_str(alloc, names)?;
+        let table = self.table()?;
+        let tree = value(alloc, names)?;
         chosen_of(listed_columns(alloc, table, &tree))
     }
 
@@ -247,7 +267,7 @@ impl Staged<'_> {
 
 impl Scripted for Staged<'_> {
     fn answer(&mut self, alloc: Global, command: &str) -> Result<String, Fail> {
-        let (word, rest) = command.split_once(" ").unwrap_or((command, ""));
+        let (word, rest) = parts_of(command);
         match word {
             "put" => self.put(alloc, rest),
             "remove" => self.remove(alloc, rest),

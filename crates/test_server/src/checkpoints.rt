@@ -93,27 +93,43 @@ fn commits_to_copy(alloc: Global) -> Result<u64, Fail> {
     Ok(many)
 }
 
-/// Fails unless files that stop at each call of a few commits, one of which copies the log, have what was answered.
-fn copied(alloc: Global) -> Result<(), Fail> {
-    let done = commits_to_copy(alloc)?.saturating_sub(4);
-    let before = counted_up(alloc, done)?;
-    let messages = count_ups(alloc, MORE)?;
-    let answers = loads(alloc, done, done.saturating_add(MORE))?;
-    let wanted = each(alloc, MORE)?;
+/// The texts of a case, and of what a stop may leave.
+#[derive(Drop)]
+struct Texts {
+    before: String,
+    messages: String,
+    answers: String,
+    wanted: String,
+}
+
+/// A few commits after this number of them.
+fn commits_after(alloc: Global, done: u64) -> Result<Texts, AllocError> {
+    Ok(Texts {
+        before: counted_up(alloc, done)?,
+        messages: count_ups(alloc, MORE)?,
+        answers: loads(alloc, done, done.saturating_add(MORE))?,
+        wanted: each(alloc, MORE)?,
+    })
+}
+
+/// Fails unless files that stop at each call of these commits, one of which copies the log, have what was answered.
+fn copies(alloc: Global, texts: &Texts) -> Result<(), Fail> {
     let case = Case {
-        before: Before::Messages(before.as_str()),
+        before: Before::Messages(texts.before.as_str()),
         schema: NET,
-        messages: messages.as_str(),
+        messages: texts.messages.as_str(),
         look: LOADS,
-        answers: answers.as_str(),
+        answers: texts.answers.as_str(),
         is_in_full: false,
         is_opened: true,
     };
     holds(alloc, grows(alloc, &case)?, "the log is copied")?;
-    stops(alloc, &case, wanted.as_str())
+    stops(alloc, &case, texts.wanted.as_str())
 }
 
 #[test]
 fn a_stop_while_the_log_is_copied_loses_nothing(rt: HostRuntime) -> Result<(), Fail> {
-    copied(rt.alloc())
+    let done = commits_to_copy(rt.alloc())?.saturating_sub(4);
+    let texts = commits_after(rt.alloc(), done)?;
+    copies(rt.alloc(), &texts)
 }

@@ -1,5 +1,6 @@
 //! Machines that are opened with a newer schema than the stored one, or over an older stored format.
 
+use crate::made::made;
 use crate::stops::{Before, Case, fails_once, replies_of, stops};
 use ov_core::Core;
 use ov_db::OpenFault;
@@ -45,7 +46,7 @@ fn reply_over<K: Keeper + Drop>(
     let schema = schema_of_text(alloc, schema)?;
     match Core::open(alloc, keeper, schema, Counter::after(99)) {
         Ok(mut core) => replies_of(alloc, &mut core, message),
-        Err(refused) => Ok(fault_text(alloc, refused.fault)?),
+        Err(refused) => made(fault_text(alloc, refused.fault)),
     }
 }
 
@@ -75,16 +76,28 @@ fn stored_after<K: Keeper + Drop>(alloc: Global, keeper: K, schema: &str) -> Res
         Ok(core) => core.into_keeper(),
         Err(refused) => refused.keeper,
     };
-    told(alloc, keeper)
+    told(alloc, &mut Keeping::new(alloc, keeper))
+}
+
+/// Adds the answer to a command.
+fn push_answer<S: Scripted>(
+    alloc: Global,
+    text: &mut String,
+    keeping: &mut S,
+    command: &str,
+) -> Result<(), Fail> {
+    let answer = keeping.answer(alloc, command)?;
+    Ok(text.push_str(answer.as_str())?)
 }
 
 /// The format of a keeper, its rows, and the text of its schema.
-fn told<K: Keeper + Drop>(alloc: Global, keeper: K) -> Result<String, Fail> {
-    let mut keeping = Keeping::new(alloc, keeper);
-    let format = keeping.answer(alloc, "format")?;
-    let lines = keeping.answer(alloc, "lines")?;
-    let schema = keeping.answer(alloc, "schema")?;
-    Ok(format!(in alloc; "{format}: {lines}{schema}")?)
+fn told<S: Scripted>(alloc: Global, keeping: &mut S) -> Result<String, Fail> {
+    let mut text = String::new(alloc);
+    push_answer(alloc, &mut text, keeping, "format")?;
+    text.push_str(": ")?;
+    push_answer(alloc, &mut text, keeping, "lines")?;
+    push_answer(alloc, &mut text, keeping, "schema")?;
+    Ok(text)
 }
 
 /// The same for a keeper of format 1 that holds these lines of Net, or else for one of format 2 with the same rows.
@@ -103,7 +116,7 @@ fn is_stored(
     schema: &str,
     wanted: Result<String, AllocError>,
 ) -> Result<(), Fail> {
-    let wanted = wanted?;
+    let wanted = made(wanted)?;
     let found = stored(alloc, is_whole, ONE, schema)?;
     is_text(alloc, found.as_str(), wanted.as_str())
 }

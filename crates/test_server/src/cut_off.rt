@@ -1,6 +1,7 @@
 //! Sessions whose input ends or fails after each number of bytes, whose writer takes each number of bytes, and whose requests
 //! are deeply nested.
 
+use crate::made::made;
 use crate::serve::{ALL, reader_of, tells, writer_of};
 use std::alloc::{AllocError, Global};
 use std::io::ErrorKind;
@@ -52,7 +53,7 @@ fn told_of(alloc: Global, cause: &str, bytes: usize) -> Result<String, AllocErro
 
 /// Fails unless a session that is given these first bytes of the requests is sent the replies to what is whole.
 fn ends_after<H: Wait>(rt: &H, alloc: Global, first: &[u8]) -> Result<(), Fail> {
-    let wanted = told_of(alloc, "InputEnded", first.len())?;
+    let wanted = made(told_of(alloc, "InputEnded", first.len()))?;
     tells(
         rt,
         alloc,
@@ -74,7 +75,7 @@ fn an_input_may_end_after_any_byte(rt: HostRuntime) -> Result<(), Fail> {
 /// Fails unless a session whose reader gives one byte per call, and fails after `calls` calls, is sent the replies to what is
 /// whole.
 fn fails_after<H: Wait>(rt: &H, alloc: Global, rest: &[u8], calls: usize) -> Result<(), Fail> {
-    let wanted = told_of(alloc, "ReadFault", calls)?;
+    let wanted = made(told_of(alloc, "ReadFault", calls))?;
     let reader = SlowReader {
         rest,
         most: 1,
@@ -112,7 +113,7 @@ fn writes<H: Wait>(
     fails: bool,
     wanted: &str,
 ) -> Result<(), Fail> {
-    let text = requests(alloc)?;
+    let text = made(requests(alloc))?;
     tells(
         rt,
         alloc,
@@ -137,11 +138,18 @@ fn a_writer_may_take_a_byte_at_a_time(rt: HostRuntime) -> Result<(), Fail> {
     writes(&rt, rt.alloc(), ALL, true, wanted.as_str())
 }
 
+/// What a session tells whose writer takes this number of bytes of all replies.
+fn told_before(alloc: Global, left: usize) -> Result<String, AllocError> {
+    let replies = replies(alloc)?;
+    match replies.as_str().split_at_checked(left) {
+        Some((first, _)) => format!(in alloc; "WriteFault {first}"),
+        None => String::from_str(alloc, "no place"),
+    }
+}
+
 /// Fails unless a writer that takes `left` bytes, and then none or fails, has taken the first bytes of all replies.
 fn stops_after<H: Wait>(rt: &H, alloc: Global, left: usize, fails: bool) -> Result<(), Fail> {
-    let replies = replies(alloc)?;
-    let (first, _) = replies.as_str().split_at_checked(left).ok_or("no place")?;
-    let wanted = format!(in alloc; "WriteFault {first}")?;
+    let wanted = made(told_before(alloc, left))?;
     writes(rt, alloc, left, fails, wanted.as_str())
 }
 
@@ -166,9 +174,16 @@ fn nest(alloc: Global, levels: usize) -> Result<String, AllocError> {
 }
 
 /// A request, an echo of that, and another request.
-fn echo_of(alloc: Global, nest: &str) -> Result<String, AllocError> {
+fn echo_of(alloc: Global, levels: usize) -> Result<String, AllocError> {
+    let nest = nest(alloc, levels)?;
     let (request, _) = ASKED[0];
     format!(in alloc; "{request}{{\"id\":1,\"method\":\"echo\",\"params\":{nest}}}{request}")
+}
+
+/// A cause, the reply to the request, and more.
+fn told_with(alloc: Global, cause: &str, more: &str) -> Result<String, AllocError> {
+    let (_, reply) = ASKED[0];
+    format!(in alloc; "{cause} {reply}{more}")
 }
 
 /// Fails unless a session that sends these is sent the reply to the first, then this, and no more.
@@ -179,10 +194,8 @@ fn echoes<H: Wait>(
     cause: &str,
     more: &str,
 ) -> Result<(), Fail> {
-    let nest = nest(alloc, levels)?;
-    let text = echo_of(alloc, nest.as_str())?;
-    let (_, reply) = ASKED[0];
-    let wanted = format!(in alloc; "{cause} {reply}{more}")?;
+    let text = made(echo_of(alloc, levels))?;
+    let wanted = made(told_with(alloc, cause, more))?;
     tells(
         rt,
         alloc,

@@ -117,9 +117,11 @@ pub(crate) fn image_of<D: Failing>(alloc: Global, files: &Files<D>) -> Result<Im
 }
 
 /// Makes a crash, which loses what was written and not synced, and returns the image that it leaves.
-pub(crate) fn image_of_crash<D: Failing>(alloc: Global, files: Files<D>) -> Result<Image, Fail> {
-    let Files { mut log, mut db } = files;
-    log.crash();
-    db.crash();
-    image_of(alloc, &Files { log, db })
+pub(crate) fn image_of_crash<D: Failing>(
+    alloc: Global,
+    files: &mut Files<D>,
+) -> Result<Image, Fail> {
+    files.log.crash();
+    files.db.crash();
+    image_of(alloc, files)
 }

@@ -145,19 +145,26 @@ fn the_newest_entries_are_kept(rt: HostRuntime) -> Result<(), Fail> {
     steps(rt.alloc(), NEWEST)
 }
 
-/// Why a machine is not opened.
-fn fault_of(opened: Result<NetCore, RefusedOpen<NetKeeper>>) -> Option<OpenFault> {
+/// The refusal of a machine. Fails if the machine was opened.
+fn refused(
+    opened: Result<NetCore, RefusedOpen<NetKeeper>>,
+) -> Result<RefusedOpen<NetKeeper>, Fail> {
     match opened {
-        Ok(_) => None,
-        Err(refused) => Some(refused.fault),
+        Ok(_) => Err(Fail::new("opened")),
+        Err(refused) => Ok(refused),
     }
 }
 
-/// Why a machine is not opened over a keeper with this schema text and these lines.
-fn refusal(alloc: Global, stored: &str, lines: &str) -> Result<Option<OpenFault>, Fail> {
-    let keeper = failing(keeper_of(alloc, stored, lines)?, Faults::NONE);
+/// The refusal of a machine over this keeper.
+fn refused_over(alloc: Global, keeper: NetKeeper) -> Result<RefusedOpen<NetKeeper>, Fail> {
     let schema = net(alloc)?;
-    Ok(fault_of(Core::open(alloc, keeper, schema, Counter::new())))
+    refused(Core::open(alloc, keeper, schema, Counter::new()))
+}
+
+/// Why a machine is not opened over a keeper with this schema text and these lines.
+fn refusal(alloc: Global, stored: &str, lines: &str) -> Result<OpenFault, Fail> {
+    let keeper = failing(keeper_of(alloc, stored, lines)?, Faults::NONE);
+    Ok(refused_over(alloc, keeper)?.fault)
 }
 
 /// Fails unless a machine is refused for this reason.
@@ -177,17 +184,23 @@ const NO_SCHEMA: &str = r#"{"name":"Other"}"#;
 
 #[test]
 fn a_database_that_does_not_fit_is_not_opened(rt: HostRuntime) -> Result<(), Fail> {
-    refuses(rt.alloc(), OTHER, "", "Some(SchemaDiffers)")?;
-    refuses(rt.alloc(), NO_SCHEMA, "", "Some(BadBody)")?;
-    refuses(rt.alloc(), NET, "Port 1 0 {}", "Some(BadBody)")?;
-    refuses(rt.alloc(), NET, UNUSED, "Some(Broken)")
+    refuses(rt.alloc(), OTHER, "", "SchemaDiffers")?;
+    refuses(rt.alloc(), NO_SCHEMA, "", "BadBody")?;
+    refuses(rt.alloc(), NET, "Port 1 0 {}", "BadBody")?;
+    refuses(rt.alloc(), NET, UNUSED, "Broken")
+}
+
+/// A machine over this keeper.
+fn opened_over(alloc: Global, keeper: NetKeeper) -> Result<NetCore, Fail> {
+    let schema = net(alloc)?;
+    Ok(Core::open(alloc, keeper, schema, Counter::new())?)
 }
 
 /// A machine over a keeper that holds a switch.
 fn over_a_switch(alloc: Global) -> Result<NetCore, Fail> {
     let switch = r#"Switch 1 0 {"load":5,"main":["set",[]],"name":"s1","ports":["set",[]]}"#;
-    let keeper = failing(keeper_of(alloc, NET, switch)?, Faults::NONE);
-    Ok(Core::open(alloc, keeper, net(alloc)?, Counter::new())?)
+    let keeper = keeper_of(alloc, NET, switch)?;
+    opened_over(alloc, failing(keeper, Faults::NONE))
 }
 
 /// The number of failures that it has counted.
@@ -204,27 +217,16 @@ fn a_machine_tells_that_its_rows_are_whole(rt: HostRuntime) -> Result<(), Fail> 
     holds(rt.alloc(), failures == 0, "the keeper has not failed")
 }
 
-/// The refusal of a machine. Fails if the machine was opened.
-fn refused(
-    opened: Result<NetCore, RefusedOpen<NetKeeper>>,
-) -> Result<RefusedOpen<NetKeeper>, Fail> {
-    match opened {
-        Ok(_) => Err(Fail::new("opened")),
-        Err(refused) => Ok(refused),
-    }
-}
-
 /// The refusal of a machine over a keeper whose first load fails.
 fn refused_at_the_load(alloc: Global) -> Result<RefusedOpen<NetKeeper>, Fail> {
     let mut keeper = net_keeper(alloc, Faults::NONE)?;
     keeper.bad_loads = 1;
-    let schema = net(alloc)?;
-    refused(Core::open(alloc, keeper, schema, Counter::new()))
+    refused_over(alloc, keeper)
 }
 
 /// The number of failures that a machine over this keeper has counted when it is opened.
 fn failures_of(alloc: Global, keeper: NetKeeper) -> Result<u64, Fail> {
-    let core = Core::open(alloc, keeper, net(alloc)?, Counter::new())?;
+    let core = opened_over(alloc, keeper)?;
     Ok(core.failures())
 }
 

@@ -1,6 +1,7 @@
 //! Machines that are opened over a database of stored format 1.
 
 use crate::conversions::{NOTED, NOTES, ONE, SAME, SELECT};
+use crate::made::made;
 use crate::stops::{Before, Case, fails_once, replies_of, stops};
 use ov_core::Core;
 use ov_keeper::Keeper;
@@ -35,7 +36,7 @@ fn with_counts<S: Alter + Drop>(
     let lines = count(connection, "SELECT tbl FROM line")?;
     let heads = count(connection, "SELECT tbl FROM head")?;
     let cells = count(connection, "SELECT tbl FROM cell")?;
-    Ok(format!(in alloc; "{text}{lines} {heads} {cells}")?)
+    made(format!(in alloc; "{text}{lines} {heads} {cells}"))
 }
 
 /// The store of the database that these statements make.
@@ -64,12 +65,17 @@ fn found<S: Alter + Drop>(
     with_counts(alloc, replies.as_str(), &mut store.close())
 }
 
-/// Fails unless the database of format 1 with one switch under Net replies this under the schema, and then has this many rows.
-fn opens_as(alloc: Global, schema: &str, reply: &str, counts: &str) -> Result<(), Fail> {
+/// The same for the database of format 1 with one switch under Net, in memory.
+fn found_in_memory(alloc: Global, schema: &str) -> Result<String, Fail> {
     let statements = whole_file(alloc, NET, ONE)?;
     let connection = Connection::open_in_memory(alloc)?;
-    let found = found(alloc, connection, statements.as_str(), schema)?;
-    let wanted = format!(in alloc; "{reply}{counts}")?;
+    found(alloc, connection, statements.as_str(), schema)
+}
+
+/// Fails unless that database replies this under the schema, and then has this many rows.
+fn opens_as(alloc: Global, schema: &str, reply: &str, counts: &str) -> Result<(), Fail> {
+    let wanted = made(format!(in alloc; "{reply}{counts}"))?;
+    let found = found_in_memory(alloc, schema)?;
     is_text(alloc, found.as_str(), wanted.as_str())
 }
 

@@ -1,3 +1,4 @@
+use crate::made::made;
 use ov_core::{Cause, StepFault};
 use ov_ends::{Clock, Source, Watched};
 use ov_serve::serve_one;
@@ -111,7 +112,7 @@ fn told<H: Wait>(
     writer: SlowWriter,
 ) -> Result<String, Fail> {
     let (cause, _, writer) = served(rt, alloc, reader, writer)?;
-    Ok(told_of(alloc, cause, writer.taken.as_slice())?)
+    made(told_of(alloc, cause, writer.taken.as_slice()))
 }
 
 /// Fails unless this is the outcome of a session.
@@ -293,7 +294,7 @@ fn asked<H: Wait>(rt: &H, alloc: Global) -> Result<String, Fail> {
         taken: 0,
     };
     let (cause, reader, _) = served(rt, alloc, reader, writer)?;
-    Ok(asked_text(alloc, cause, reader.calls, reader.early)?)
+    made(asked_text(alloc, cause, reader.calls, reader.early))
 }
 
 #[test]

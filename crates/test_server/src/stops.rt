@@ -1,17 +1,18 @@
 //! Machines over files that fail, and what is found when the files are opened again.
 
 use crate::failing::{Failing, Image, NEVER, Stop, files_of, image_of, image_of_crash, no_files};
+use crate::made::received;
 use ov_base::{Bytes, Text};
 use ov_core::{Core, Event};
 use ov_keeper::Keeper;
-use ov_rpc::Received;
+use ov_schema::Schema;
 use ov_store::once::FailsOnce;
 use ov_store::store_over;
 use sqlite::{Alter, Connection, Files, Options};
 use sqlite_disk::{Fuse, Memory};
 use std::alloc::{AllocError, Global};
 use std::test::Fail;
-use test_basics::{Counter, NET, is_text, schema_of_text};
+use test_basics::{Counter, NET, holds, is_text, schema_of_text};
 use test_support::session_of;
 
 /// How files that do not fail are prepared.
@@ -42,6 +43,17 @@ pub(crate) struct Case<'a> {
     pub is_opened: bool,
 }
 
+impl<'a> Case<'a> {
+    /// The run over files that fail.
+    fn run(&self) -> Run<'a> {
+        Run {
+            number: 2,
+            schema: self.schema,
+            messages: self.messages,
+        }
+    }
+}
+
 /// The largest number of runs over one file.
 const RUNS: u64 = 400;
 
@@ -59,6 +71,17 @@ fn push_line(
     replies.push_str("\n")
 }
 
+/// Adds the line of a reply in bytes.
+fn push_bytes(
+    alloc: Global,
+    replies: &mut String,
+    reply: &Bytes,
+    failures: u64,
+) -> Result<(), Fail> {
+    let reply = str::from_utf8(reply.as_slice())?;
+    Ok(push_line(alloc, replies, reply, failures)?)
+}
+
 /// Adds the line of the reply to a message.
 fn push_reply<K: Keeper + Drop>(
     alloc: Global,
@@ -66,12 +89,10 @@ fn push_reply<K: Keeper + Drop>(
     message: &str,
     replies: &mut String,
 ) -> Result<(), Fail> {
-    let received = Received::read(alloc, Bytes::from_slice(alloc, message.as_bytes())?)?;
+    let received = received(alloc, message)?;
     core.step(alloc, 0, Event::Take(session_of(1), received));
     let output = core.take_output(alloc, session_of(1))?;
-    let reply = str::from_utf8(output.as_slice())?;
-    push_line(alloc, replies, reply, core.failures())?;
-    Ok(())
+    push_bytes(alloc, replies, &output, core.failures())
 }
 
 /// Whether a reply has an error, of its own or of one of its operations.
@@ -79,87 +100,152 @@ fn has_error(reply: &str) -> bool {
     reply.contains("\"error\":\"")
 }
 
-/// The replies of a machine to messages of its first session, each in a line.
+/// Adds the replies of a machine to messages of its first session, each in a line.
+fn push_replies<K: Keeper + Drop>(
+    alloc: Global,
+    core: &mut Core<K, Counter>,
+    messages: &str,
+    replies: &mut String,
+) -> Result<(), Fail> {
+    core.step(alloc, 0, Event::Open);
+    for message in messages.lines() {
+        push_reply(alloc, core, message, replies)?;
+    }
+    Ok(())
+}
+
+/// Those replies.
 pub(crate) fn replies_of<K: Keeper + Drop>(
     alloc: Global,
     core: &mut Core<K, Counter>,
     messages: &str,
 ) -> Result<String, Fail> {
     let mut replies = String::new(alloc);
-    core.step(alloc, 0, Event::Open);
-    for message in messages.lines() {
-        push_reply(alloc, core, message, &mut replies)?;
-    }
+    push_replies(alloc, core, messages, &mut replies)?;
     Ok(replies)
 }
 
-/// The replies of a machine over a keeper, which is given back. None if the machine is not opened.
-fn replies_over<K: Keeper + Drop>(
-    alloc: Global,
-    keeper: K,
-    schema: &str,
-    messages: &str,
-) -> Result<(K, String), Fail> {
-    let schema = schema_of_text(alloc, schema)?;
-    match Core::open(alloc, keeper, schema, Counter::new()) {
-        Ok(core) => {
-            let mut core = core;
-            let replies = replies_of(alloc, &mut core, messages)?;
-            Ok((core.into_keeper(), replies))
-        }
-        Err(refused) => Ok((refused.keeper, String::new(alloc))),
+/// A machine over files: the number that goes into their log, and differs from that of the machines before and after, the
+/// schema that it is opened with, and the messages that it takes.
+#[derive(Clone, Copy)]
+struct Run<'a> {
+    number: u64,
+    schema: &'a str,
+    messages: &'a str,
+}
+
+/// The same with what the machine takes over: the text of the schema, for a new store, and the schema.
+#[derive(Drop)]
+struct Ready<'a> {
+    number: u64,
+    text: Text,
+    schema: Schema,
+    messages: &'a str,
+}
+
+impl<'a> Run<'a> {
+    /// Makes the run ready.
+    fn ready(self, alloc: Global) -> Result<Ready<'a>, Fail> {
+        let schema = schema_of_text(alloc, self.schema)?;
+        Ok(Ready {
+            number: self.number,
+            text: Text::from_str(alloc, self.schema)?,
+            schema,
+            messages: self.messages,
+        })
     }
 }
 
-/// The replies of a machine over the store of a connection, which is made if there is none.
-fn replies_at<S: Alter + Drop>(
+/// Adds the replies of a machine, and gives its keeper back.
+fn run_machine<K: Keeper + Drop>(
+    alloc: Global,
+    core: Core<K, Counter>,
+    messages: &str,
+    replies: &mut String,
+) -> Result<K, Fail> {
+    let mut core = core;
+    push_replies(alloc, &mut core, messages, replies)?;
+    Ok(core.into_keeper())
+}
+
+/// Adds the replies of a machine over a keeper, which is given back. None if the machine is not opened.
+fn run_over<K: Keeper + Drop>(
+    alloc: Global,
+    keeper: K,
+    schema: Schema,
+    messages: &str,
+    replies: &mut String,
+) -> Result<K, Fail> {
+    match Core::open(alloc, keeper, schema, Counter::new()) {
+        Ok(core) => run_machine(alloc, core, messages, replies),
+        Err(refused) => Ok(refused.keeper),
+    }
+}
+
+/// Adds the replies of a machine over the store of a connection, which is made if there is none.
+fn run_at<S: Alter + Drop>(
     alloc: Global,
     connection: Connection<S>,
-    schema: &str,
-    messages: &str,
-) -> Result<(S, String), Fail> {
+    run: Ready<'_>,
+    replies: &mut String,
+) -> Result<S, Fail> {
     if !connection.is_autocommit() {
         return Err(Fail::new("in a transaction"));
     }
-    let text = Text::from_str(alloc, schema)?;
-    match store_over(alloc, connection, text) {
+    match store_over(alloc, connection, run.text) {
         Ok(store) => {
-            let (store, replies) = replies_over(alloc, store, schema, messages)?;
-            Ok((store.close().into_store(), replies))
+            let store = run_over(alloc, store, run.schema, run.messages, replies)?;
+            Ok(store.close().into_store())
         }
-        Err(refused) => Ok((refused.connection.into_store(), String::new(alloc))),
+        Err(refused) => Ok(refused.connection.into_store()),
     }
 }
 
-/// The replies of a machine over files, which are given back. The number goes into the log, and differs from that of the
-/// machines before and after.
-fn replies_in<D: Failing>(
+/// Adds the replies of a machine over files, which are given back.
+fn run_in<D: Failing>(
     alloc: Global,
     files: Files<D>,
-    number: u64,
-    schema: &str,
-    messages: &str,
-) -> Result<(Files<D>, String), Fail> {
+    run: Ready<'_>,
+    replies: &mut String,
+) -> Result<Files<D>, Fail> {
     if !files.may_be_used() {
         return Err(Fail::new("not usable"));
     }
-    match Connection::open_files(alloc, files, Options::new(number)) {
-        Ok(connection) => {
-            let (store, replies) = replies_at(alloc, connection, schema, messages)?;
-            Ok((store.close(), replies))
-        }
-        Err((_, left)) => Ok((left.into_files(), String::new(alloc))),
+    match Connection::open_files(alloc, files, Options::new(run.number)) {
+        Ok(connection) => Ok(run_at(alloc, connection, run, replies)?.close()),
+        Err((_, left)) => Ok(left.into_files()),
     }
+}
+
+/// The same over files that hold an image, one of which fails.
+fn files_after<D: Failing>(
+    alloc: Global,
+    image: &Image,
+    stop: Stop,
+    run: Run<'_>,
+    replies: &mut String,
+) -> Result<Files<D>, Fail> {
+    let run = run.ready(alloc)?;
+    let files = files_of::<D>(alloc, image, stop)?;
+    run_in(alloc, files, run, replies)
 }
 
 /// The image that messages leave over new files that do not fail, under the schema Net.
 fn image_after_messages<D: Failing>(alloc: Global, messages: &str) -> Result<Image, Fail> {
-    let files = files_of::<D>(alloc, &no_files(alloc), NEVER)?;
-    let (files, replies) = replies_in(alloc, files, 1, NET, messages)?;
-    if has_error(replies.as_str()) {
-        return Err(Fail::new(replies));
-    }
+    let run = Run {
+        number: 1,
+        schema: NET,
+        messages,
+    };
+    let mut replies = String::new(alloc);
+    let files = files_after::<D>(alloc, &no_files(alloc), NEVER, run, &mut replies)?;
+    has_no_error(alloc, replies.as_str())?;
     image_of(alloc, &files)
+}
+
+/// Fails with replies of which one has an error.
+fn has_no_error(alloc: Global, replies: &str) -> Result<(), Fail> {
+    holds(alloc, !has_error(replies), replies)
 }
 
 /// Runs statements over a connection, and gives back what is below it.
@@ -191,8 +277,13 @@ fn image_before<D: Failing>(alloc: Global, case: &Case<'_>) -> Result<Image, Fai
 
 /// The reply of a machine over files that hold an image, under the schema Net.
 fn found<D: Failing>(alloc: Global, image: &Image, look: &str) -> Result<String, Fail> {
-    let files = files_of::<D>(alloc, image, NEVER)?;
-    let (_, replies) = replies_in(alloc, files, 3, NET, look)?;
+    let run = Run {
+        number: 3,
+        schema: NET,
+        messages: look,
+    };
+    let mut replies = String::new(alloc);
+    files_after::<D>(alloc, image, NEVER, run, &mut replies)?;
     Ok(replies)
 }
 
@@ -231,15 +322,22 @@ fn outcome(alloc: Global, case: &Case<'_>, replies: &str, found: &str) -> Result
     }
 }
 
-/// Adds an outcome, unless it is there.
-fn add_new(outcomes: &mut Vec<String>, outcome: String) -> Result<(), Fail> {
-    for known in outcomes.iter() {
-        if known.as_str() == outcome.as_str() {
-            return Ok(());
+/// Whether an outcome is there.
+fn is_known(outcomes: &[String], outcome: &str) -> bool {
+    for known in outcomes {
+        if known.as_str() == outcome {
+            return true;
         }
     }
-    outcomes.push(outcome)?;
-    Ok(())
+    false
+}
+
+/// Adds an outcome, unless it is there.
+fn add_new(outcomes: &mut Vec<String>, outcome: String) -> Result<(), Fail> {
+    if is_known(outcomes.as_slice(), outcome.as_str()) {
+        return Ok(());
+    }
+    Ok(outcomes.push(outcome)?)
 }
 
 /// Adds what comes of a run that was answered this and left this image.
@@ -247,10 +345,10 @@ fn add_outcome<D: Failing>(
     alloc: Global,
     case: &Case<'_>,
     replies: &str,
-    image: Image,
+    image: Result<Image, Fail>,
     outcomes: &mut Vec<String>,
 ) -> Result<(), Fail> {
-    let found = found::<D>(alloc, &image, case.look)?;
+    let found = found::<D>(alloc, &image?, case.look)?;
     add_new(outcomes, outcome(alloc, case, replies, found.as_str())?)
 }
 
@@ -260,19 +358,12 @@ fn add_both<D: Failing>(
     alloc: Global,
     case: &Case<'_>,
     replies: &str,
-    files: Files<D>,
+    files: &mut Files<D>,
     outcomes: &mut Vec<String>,
 ) -> Result<bool, Fail> {
-    let mut files = files;
     let has_failed = files.log.has_failed() || files.db.has_failed();
-    add_outcome::<D>(alloc, case, replies, image_of(alloc, &files)?, outcomes)?;
-    add_outcome::<D>(
-        alloc,
-        case,
-        replies,
-        image_of_crash(alloc, files)?,
-        outcomes,
-    )?;
+    add_outcome::<D>(alloc, case, replies, image_of(alloc, files), outcomes)?;
+    add_outcome::<D>(alloc, case, replies, image_of_crash(alloc, files), outcomes)?;
     Ok(has_failed)
 }
 
@@ -285,9 +376,9 @@ fn add_outcomes<D: Failing>(
     stop: Stop,
     outcomes: &mut Vec<String>,
 ) -> Result<bool, Fail> {
-    let files = files_of::<D>(alloc, image, stop)?;
-    let (files, replies) = replies_in(alloc, files, 2, case.schema, case.messages)?;
-    add_both(alloc, case, replies.as_str(), files, outcomes)
+    let mut replies = String::new(alloc);
+    let mut files = files_after::<D>(alloc, image, stop, case.run(), &mut replies)?;
+    add_both(alloc, case, replies.as_str(), &mut files, outcomes)
 }
 
 /// A number of calls of each file.
@@ -299,8 +390,13 @@ struct Calls {
 
 /// The number of calls of each file of an image until a machine is open.
 fn calls_to_open(alloc: Global, image: &Image) -> Result<Calls, Fail> {
-    let files = files_of::<FailsOnce<Memory>>(alloc, image, NEVER)?;
-    let (files, _) = replies_in(alloc, files, 2, NET, "")?;
+    let run = Run {
+        number: 2,
+        schema: NET,
+        messages: "",
+    };
+    let mut replies = String::new(alloc);
+    let files = files_after::<FailsOnce<Memory>>(alloc, image, NEVER, run, &mut replies)?;
     Ok(Calls {
         log: calls_of(&files.log),
         db: calls_of(&files.db),
@@ -340,15 +436,31 @@ fn first_calls(alloc: Global, case: &Case<'_>, image: &Image) -> Result<Calls, F
     }
 }
 
+/// Adds what comes of runs over this image in which the log fails, and of those in which the file does.
+fn add_for_each_file<D: Failing>(
+    alloc: Global,
+    case: &Case<'_>,
+    image: &Image,
+    outcomes: &mut Vec<String>,
+) -> Result<(), Fail> {
+    let first = first_calls(alloc, case, image)?;
+    let log = Stop {
+        is_log: true,
+        calls: first.log,
+    };
+    add_all_outcomes::<D>(alloc, case, image, log, outcomes)?;
+    let db = Stop {
+        is_log: false,
+        calls: first.db,
+    };
+    add_all_outcomes::<D>(alloc, case, image, db, outcomes)
+}
+
 /// All that may come of a case, each outcome once.
 fn outcomes_of<D: Failing>(alloc: Global, case: &Case<'_>) -> Result<String, Fail> {
     let image = image_before::<D>(alloc, case)?;
-    let first = first_calls(alloc, case, &image)?;
     let mut outcomes = Vec::new(alloc);
-    for (is_log, calls) in [(true, first.log), (false, first.db)] {
-        let stop = Stop { is_log, calls };
-        add_all_outcomes::<D>(alloc, case, &image, stop, &mut outcomes)?;
-    }
+    add_for_each_file::<D>(alloc, case, &image, &mut outcomes)?;
     Ok(joined(alloc, outcomes.as_slice())?)
 }
 
@@ -364,8 +476,8 @@ fn joined(alloc: Global, texts: &[String]) -> Result<String, AllocError> {
 /// Whether the database file is longer after the messages of a case, over files that do not fail.
 fn is_longer_after<D: Failing>(alloc: Global, case: &Case<'_>) -> Result<bool, Fail> {
     let image = image_before::<D>(alloc, case)?;
-    let files = files_of::<D>(alloc, &image, NEVER)?;
-    let (files, _) = replies_in(alloc, files, 2, case.schema, case.messages)?;
+    let mut replies = String::new(alloc);
+    let files = files_after::<D>(alloc, &image, NEVER, case.run(), &mut replies)?;
     Ok(files.db.memory().bytes().len() > image.db.len())
 }
 

@@ -1,4 +1,4 @@
-use ov_base::Bytes;
+use crate::made::{made, received};
 use ov_core::{Attempt, Cause, Event};
 use ov_rpc::Received;
 use std::alloc::{AllocError, Global};
@@ -48,10 +48,15 @@ fn wait_within(alloc: Global, name: &str, timeout: &str) -> Result<String, Alloc
 
 /// The operations that wait for one switch and insert another.
 fn chain_of(alloc: Global, names: &str) -> Result<String, AllocError> {
-    let (name, other) = names.split_once(" ").unwrap_or((names, ""));
+    let (name, other) = parts_of(names);
     let wait = wait_for(alloc, name, "")?;
     let insert = insert_of(alloc, other)?;
     format!(in alloc; "{wait},{insert}")
+}
+
+/// The parts of a text before and after its first space; the second is empty if it has none.
+fn parts_of(text: &str) -> (&str, &str) {
+    text.split_once(" ").unwrap_or((text, ""))
 }
 
 /// Adds an attempt.
@@ -68,8 +73,8 @@ impl Waits {
 
     /// Takes a message of a session.
     fn take(&mut self, alloc: Global, serial: u64, text: &str) -> Result<String, Fail> {
-        let received = Received::read(alloc, Bytes::from_slice(alloc, text.as_bytes())?)?;
-        self.step(alloc, 0, Event::Take(session_of(serial), received))
+        let message = received(alloc, text)?;
+        self.step(alloc, 0, Event::Take(session_of(serial), message))
     }
 
     /// Takes a transaction of a session, if its operations were made.
@@ -80,17 +85,26 @@ impl Waits {
         id: &str,
         operations: Result<String, AllocError>,
     ) -> Result<String, Fail> {
-        let operations = operations?;
-        let text = format!(in alloc;
+        let operations = made(operations)?;
+        let text = made(format!(in alloc;
             "{{\"id\":{id},\"method\":\"transact\",\"params\":[\"Net\",{operations}]}}"
-        )?;
+        ))?;
         self.take(alloc, serial, text.as_str())
     }
 
     /// Takes the notification that cancels a transaction.
     fn cancel(&mut self, alloc: Global, serial: u64, id: &str) -> Result<String, Fail> {
-        let text = format!(in alloc; "{{\"id\":null,\"method\":\"cancel\",\"params\":[{id}]}}")?;
+        let text = made(format!(in alloc;
+            "{{\"id\":null,\"method\":\"cancel\",\"params\":[{id}]}}"
+        ))?;
         self.take(alloc, serial, text.as_str())
+    }
+
+    /// Takes the wait of a session for s9, with this id.
+    fn wait(&mut self, alloc: Global, serial: u64, id: u64) -> Result<(), Fail> {
+        let id = number_or_none(alloc, Some(id))?;
+        self.transact(alloc, serial, id.as_str(), wait_of(alloc, "s9"))?;
+        Ok(())
     }
 
     /// Takes waits of a session for s9, with these ids.
@@ -102,8 +116,7 @@ impl Waits {
         beyond: &str,
     ) -> Result<String, Fail> {
         for id in first.parse::<u64>().unwrap_or(0)..beyond.parse::<u64>().unwrap_or(0) {
-            let id = format!(in alloc; "{id}")?;
-            self.transact(alloc, serial, id.as_str(), wait_of(alloc, "s9"))?;
+            self.wait(alloc, serial, id)?;
         }
         Ok(String::new(alloc))
     }
@@ -164,7 +177,7 @@ impl Waits {
 
     /// The answer to a command about a transaction of a session.
     fn act(&mut self, alloc: Global, word: &str, serial: u64, rest: &str) -> Result<String, Fail> {
-        let (id, rest) = rest.split_once(" ").unwrap_or((rest, ""));
+        let (id, rest) = parts_of(rest);
         match word {
             "wait" => self.transact(alloc, serial, id, wait_of(alloc, rest)),
             "waits" => self.waits(alloc, serial, id, rest),
@@ -184,10 +197,10 @@ impl Waits {
         rest: &str,
     ) -> Result<String, Fail> {
         match word {
-            "tick" => Ok(self.tick(alloc, number)?),
-            "pass" => Ok(self.pass(alloc, number)?),
+            "tick" => made(self.tick(alloc, number)),
+            "pass" => made(self.pass(alloc, number)),
             "finish" => self.finish(alloc, number),
-            "got" => Ok(self.got(alloc, number)?),
+            "got" => made(self.got(alloc, number)),
             _ => self.act(alloc, word, number, rest),
         }
     }
@@ -195,11 +208,11 @@ impl Waits {
 
 impl Scripted for Waits {
     fn answer(&mut self, alloc: Global, command: &str) -> Result<String, Fail> {
-        let (word, rest) = command.split_once(" ").unwrap_or((command, ""));
-        let (number, others) = rest.split_once(" ").unwrap_or((rest, ""));
+        let (word, rest) = parts_of(command);
+        let (number, others) = parts_of(rest);
         match (word, number.parse::<u64>()) {
-            ("open", _) => Ok(self.open(alloc)?),
-            ("outcomes", _) => Ok(self.outcomes(alloc)?),
+            ("open", _) => made(self.open(alloc)),
+            ("outcomes", _) => made(self.outcomes(alloc)),
             ("due", _) => number_or_none(alloc, self.core.due()),
             (_, Ok(number)) => self.answer_at(alloc, word, number, others),
             (_, Err(_)) => Err(Fail::new("no number")),

@@ -1,4 +1,4 @@
-use crate::made::tells_as;
+use crate::made::{made, tells_as};
 use ov_base::Text;
 use ov_words::{Ending, Settings, WordFault, error_line_of, read_words, status_of};
 use std::alloc::{AllocError, Global};
@@ -107,14 +107,19 @@ fn told(alloc: Global, read: Result<Settings, WordFault>) -> Result<String, Allo
     }
 }
 
+/// The settings that the arguments of a case give.
+fn told_of(alloc: Global, case: &str) -> Result<String, AllocError> {
+    let words = words_of(alloc, case)?;
+    told(alloc, read_words(alloc, words.as_slice()))
+}
+
 /// The settings that arguments give.
 #[derive(Drop)]
 struct Words;
 
 impl Scripted for Words {
     fn answer(&mut self, alloc: Global, command: &str) -> Result<String, Fail> {
-        let words = words_of(alloc, command)?;
-        Ok(told(alloc, read_words(alloc, words.as_slice()))?)
+        made(told_of(alloc, command))
     }
 }
 
