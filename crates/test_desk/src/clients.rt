@@ -1,4 +1,5 @@
 use crate::holding::{HoldingGate, Mark};
+use crate::told::push;
 use ov_core::Cause;
 use ov_desk::End;
 use ov_ends::Watched;
@@ -122,31 +123,30 @@ pub(crate) fn links_of<'g, 'r, 's, R: Clock>(
 type Told = (u64, Cause, Vec<u8>);
 
 /// The same, taken from what remains of a client.
-fn told_of<R: Clock>(end: End<ClientReader<'_, '_, '_, R>, ClientWriter>) -> Told {
-    let (serial, cause) = (end.serial, end.cause);
-    (serial, cause, end.writer.into_inner().taken)
+fn told_of<S: Drop>(end: End<S, ClientWriter>) -> Told {
+    (end.serial, end.cause, end.writer.into_inner().taken)
 }
 
-/// Adds the line of a client.
-fn push_line(alloc: Global, lines: &mut String, told: Told) -> Result<(), AllocError> {
+/// The line of a client.
+fn line_of(alloc: Global, told: Told) -> Result<String, AllocError> {
     let (serial, cause, taken) = told;
     let taken = str::from_utf8(taken.as_slice()).unwrap_or("no text");
-    let line = format!(in alloc; "{serial} {cause:?} {taken}\n")?;
-    lines.push_str(line.as_str())
+    format!(in alloc; "{serial} {cause:?} {taken}\n")
 }
 
-/// The lines of what remains of clients. If one of them has waited too long, a last line says so.
-pub(crate) fn lines_of<R: Clock>(
+/// The lines of what remains of clients, and a last one that says so if one of them has waited too long. What remains is
+/// taken out, and belongs to the caller, which makes this proof smaller.
+pub(crate) fn lines_of<S: Drop>(
     alloc: Global,
-    gate: &HoldingGate<'_, R>,
-    ends: VecDeque<End<ClientReader<'_, '_, '_, R>, ClientWriter>>,
+    ends: &mut VecDeque<End<S, ClientWriter>>,
+    is_late: bool,
 ) -> Result<String, AllocError> {
     let mut lines = String::new(alloc);
-    for end in ends {
-        push_line(alloc, &mut lines, told_of(end))?;
+    for _ in 0..ends.len() {
+        if let Some(end) = ends.pop_front() {
+            push(&mut lines, line_of(alloc, told_of(end)))?;
+        }
     }
-    if gate.is_late() {
-        lines.push_str("too late\n")?;
-    }
+    lines.push_str(if is_late { "too late\n" } else { "" })?;
     Ok(lines)
 }

@@ -2,6 +2,9 @@
 
 use crate::clients::{ALL, Client, client_of};
 use crate::desks::{converse, conversed};
+use crate::holding::{Holds, Mark, NO_HOLDS};
+use crate::told::push;
+use ov_workers::Point;
 use std::alloc::{AllocError, Global};
 use std::rt::Clock;
 use std::sync::Wait;
@@ -11,11 +14,41 @@ use test_basics::holds;
 
 const LIST: &str = r#"{"id":0,"method":"list_dbs","params":[]}"#;
 
+/// The first time that the first client's reader brings an item.
+const FIRST_BRINGS: Mark = Mark {
+    serial: 1,
+    point: Point::BeforePush,
+    times: 1,
+};
+
+/// The first time that the first client's writer writes a frame.
+const FIRST_WRITES: Mark = Mark {
+    serial: 1,
+    point: Point::BeforeWrite,
+    times: 1,
+};
+
+/// The first time that the second client's reader brings an item.
+const SECOND_BRINGS: Mark = Mark {
+    serial: 2,
+    point: Point::BeforePush,
+    times: 1,
+};
+
+/// The first time that the second client's writer writes a frame.
+const SECOND_WRITES: Mark = Mark {
+    serial: 2,
+    point: Point::BeforeWrite,
+    times: 1,
+};
+
 /// Each reader is held up before its message until the other has reached its own, and each writer before its frame.
-const MEETING: &str = "1 push 1 until 2 push 1
-2 push 1 until 1 push 1
-1 frame 1 until 2 frame 1
-2 frame 1 until 1 frame 1";
+const MEETING: Holds = [
+    Some((FIRST_BRINGS, SECOND_BRINGS)),
+    Some((SECOND_BRINGS, FIRST_BRINGS)),
+    Some((FIRST_WRITES, SECOND_WRITES)),
+    Some((SECOND_WRITES, FIRST_WRITES)),
+];
 
 const MET: &str = r#"1 InputEnded {"error":null,"id":0,"result":["Net"]}
 2 InputEnded {"error":null,"id":0,"result":["Net"]}
@@ -37,7 +70,7 @@ const TIMED_OUT: &str = r#"1 InputEnded {"error":null,"id":1,"result":[{"error":
 
 #[test]
 fn ticks_are_given(rt: HostRuntime) -> Result<(), Fail> {
-    conversed(&rt, rt.alloc(), "", &[client_of(WAITING)], TIMED_OUT)
+    conversed(&rt, rt.alloc(), NO_HOLDS, &[client_of(WAITING)], TIMED_OUT)
 }
 
 /// Owns the lock, and gives it up once the other client has been told to wait.
@@ -58,7 +91,7 @@ const GIVEN_ON: &str =
 #[test]
 fn a_lock_is_given_on(rt: HostRuntime) -> Result<(), Fail> {
     let clients = [client_of(OWNER), client_of(WAITER)];
-    conversed(&rt, rt.alloc(), "", &clients, GIVEN_ON)
+    conversed(&rt, rt.alloc(), NO_HOLDS, &clients, GIVEN_ON)
 }
 
 /// The third read fails.
@@ -79,7 +112,7 @@ const ENDED_BADLY: &str =
 #[test]
 fn what_came_before_a_bad_end_is_answered(rt: HostRuntime) -> Result<(), Fail> {
     let clients = [client_of(FAILING), client_of(DAMAGED), client_of(LIST)];
-    conversed(&rt, rt.alloc(), "", &clients, ENDED_BADLY)
+    conversed(&rt, rt.alloc(), NO_HOLDS, &clients, ENDED_BADLY)
 }
 
 /// The first writer takes everything, byte by byte, and the second takes twenty bytes.
@@ -99,14 +132,14 @@ fn slow_client(left: usize) -> Client<'static> {
 #[test]
 fn writers_take_byte_by_byte(rt: HostRuntime) -> Result<(), Fail> {
     let clients = [slow_client(ALL), slow_client(20)];
-    conversed(&rt, rt.alloc(), "", &clients, CUT)
+    conversed(&rt, rt.alloc(), NO_HOLDS, &clients, CUT)
 }
 
 /// `count` texts with a number in the middle, counted from 0.
 fn numbered(alloc: Global, count: u64, before: &str, after: &str) -> Result<String, AllocError> {
     let mut text = String::new(alloc);
     for number in 0..count {
-        text.push_str(format!(in alloc; "{before}{number}{after}")?.as_str())?;
+        push(&mut text, format!(in alloc; "{before}{number}{after}"))?;
     }
     Ok(text)
 }
@@ -137,6 +170,16 @@ fn tells_overrun(alloc: Global, told: &str) -> Result<(), Fail> {
     holds(alloc, is_so, what.as_str())
 }
 
+/// The reader of 1,100 echoes has reached their end.
+const ALL_BROUGHT: Mark = Mark {
+    serial: 1,
+    point: Point::BeforePush,
+    times: 1_101,
+};
+
+/// The first client's writer is held up until its reader has reached the end.
+const SLOW: Holds = [Some((FIRST_WRITES, ALL_BROUGHT)), None, None, None];
+
 /// Holds up the writer of a client until its reader has reached the end of 1,100 echoes. Another client is served meanwhile.
 fn is_overrun_by<R: Threads + Wait + Clock + Sync>(
     rt: &R,
@@ -144,7 +187,7 @@ fn is_overrun_by<R: Threads + Wait + Clock + Sync>(
     script: &str,
 ) -> Result<(), Fail> {
     let clients = [client_of(script), client_of(LIST)];
-    let told = converse(rt, alloc, "1 frame 1 until 1 push 1101", &clients)?;
+    let told = converse(rt, alloc, SLOW, &clients)?;
     tells_overrun(alloc, told.as_str())
 }
 
@@ -158,6 +201,12 @@ fn a_writer_that_is_slow_is_overrun(rt: HostRuntime) -> Result<(), Fail> {
 
 #[test]
 fn no_links_and_too_many(rt: HostRuntime) -> Result<(), Fail> {
-    conversed(&rt, rt.alloc(), "", &[], "")?;
-    conversed(&rt, rt.alloc(), "", &[client_of(LIST); 65], "TooMany 65 0")
+    conversed(&rt, rt.alloc(), NO_HOLDS, &[], "")?;
+    conversed(
+        &rt,
+        rt.alloc(),
+        NO_HOLDS,
+        &[client_of(LIST); 65],
+        "TooMany 65 0",
+    )
 }

@@ -1,8 +1,8 @@
 //! Clients of a desk whose database is in two files, one of which stops, and what is found when both are opened again.
 
-use crate::clients::{client_of, lines_of, links_of};
+use crate::clients::{ClientWriter, client_of, lines_of, links_of};
 use crate::desks::RisingClock;
-use crate::holding::HoldingGate;
+use crate::holding::{HoldingGate, NO_HOLDS};
 use ov_base::Text;
 use ov_core::Core;
 use ov_desk::{Served, serve_links};
@@ -10,7 +10,7 @@ use ov_keeper::Keeper;
 use ov_lanes::Desk;
 use ov_store::{Store, reopen_after_crash};
 use sqlite::{Alter, Connection, Files, Options};
-use sqlite_disk::{Fuse, Memory};
+use sqlite_disk::{Crash, Fuse, Memory};
 use sqlite_trees::store::Reopen;
 use std::alloc::Global;
 use std::rt::Clock;
@@ -37,6 +37,18 @@ struct Outcome {
     found: String,
 }
 
+/// A line for each client that was served, and the keeper, which is given back.
+fn told_and_kept<K: Keeper + Drop, S: Drop>(
+    alloc: Global,
+    served: Served<K, Counter, S, ClientWriter>,
+    is_late: bool,
+) -> Result<(K, String), Fail> {
+    let Served { desk, mut ends } = served;
+    let told = lines_of(alloc, &mut ends, is_late);
+    let keeper = desk.into_core().into_keeper();
+    Ok((keeper, told?))
+}
+
 /// Serves the two clients at a desk over a keeper, which is given back, and returns a line for each.
 fn serve_both<R: Threads + Wait + Clock + Sync, K: Keeper + Drop>(
     rt: &R,
@@ -47,11 +59,7 @@ fn serve_both<R: Threads + Wait + Clock + Sync, K: Keeper + Drop>(
     let links = links_of(alloc, gate, &[client_of(FIRST), client_of(SECOND)])?;
     let desk = Desk::new(alloc, core);
     match serve_links(rt, alloc, desk, links, gate, &mut RisingClock { moment: 0 }) {
-        Ok(served) => {
-            let Served { desk, ends } = served;
-            let told = lines_of(alloc, gate, ends)?;
-            Ok((desk.into_core().into_keeper(), told))
-        }
+        Ok(served) => told_and_kept(alloc, served, gate.is_late()),
         Err(_) => Err(Fail::new("not served")),
     }
 }
@@ -62,8 +70,9 @@ fn serve_over<R: Threads + Wait + Clock + Sync, K: Keeper + Drop>(
     alloc: Global,
     keeper: K,
 ) -> Result<(K, String), Fail> {
-    let gate = HoldingGate::new(rt, alloc, "")?;
-    match Core::open(alloc, keeper, net(alloc)?, Counter::new()) {
+    let gate = HoldingGate::new(rt, alloc, NO_HOLDS)?;
+    let schema = net(alloc)?;
+    match Core::open(alloc, keeper, schema, Counter::new()) {
         Ok(core) => serve_both(rt, alloc, core, &gate),
         Err(refused) => Ok((refused.keeper, String::new(alloc))),
     }
@@ -104,6 +113,21 @@ fn outcome_at<R: Threads + Wait + Clock + Sync, S: Alter + Reopen + Drop>(
     }
 }
 
+/// The same over two files. It is generic over them, since the proof for a kind of file is longer.
+fn outcome_in_files<R: Threads + Wait + Clock + Sync, D: Crash + Drop>(
+    rt: &R,
+    alloc: Global,
+    files: Files<D>,
+) -> Result<Option<Outcome>, Fail> {
+    if !files.may_be_used() {
+        return Err(Fail::new("not usable"));
+    }
+    match Connection::open_files(alloc, files, Options::new(3)) {
+        Ok(connection) => outcome_at(rt, alloc, connection),
+        Err(_) => Ok(None),
+    }
+}
+
 /// The same over two files in memory, each of which stops after a number of calls.
 fn outcome_of<R: Threads + Wait + Clock + Sync>(
     rt: &R,
@@ -115,10 +139,7 @@ fn outcome_of<R: Threads + Wait + Clock + Sync>(
         log: Fuse::new(Memory::new(alloc), log_calls),
         db: Fuse::new(Memory::new(alloc), file_calls),
     };
-    match Connection::open_files(alloc, files, Options::new(3)) {
-        Ok(connection) => outcome_at(rt, alloc, connection),
-        Err(_) => Ok(None),
-    }
+    outcome_in_files(rt, alloc, files)
 }
 
 /// Whether the client in this place was answered without an error.

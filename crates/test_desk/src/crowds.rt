@@ -1,11 +1,15 @@
 //! 64 clients at once, each with an echo, a monitor, an insert and an echo, compared with the history that their desk kept.
 
-use crate::clients::{Client, ClientReader, ClientWriter, client_of, lines_of, links_of};
-use crate::desks::{ClientsServed, converse_at, refusal, serve};
-use crate::holding::HoldingGate;
+use crate::clients::{Client, ClientWriter, client_of, lines_of, links_of};
+use crate::desks::{converse_at, refusal, serve};
+use crate::holding::{HoldingGate, NO_HOLDS};
+use crate::told::{push, tells};
 use ov_core::{Entry, Event};
 use ov_desk::{End, Served};
+use ov_ends::Source;
+use ov_keeper::Keeper;
 use ov_lanes::Desk;
+use ov_requests::Draws;
 use ov_workers::Link;
 use std::alloc::{AllocError, Global};
 use std::collections::VecDeque;
@@ -13,7 +17,7 @@ use std::rt::Clock;
 use std::sync::Wait;
 use std::test::Fail;
 use std::thread::Threads;
-use test_basics::{Counter, Faults, NetKeeper, is_text};
+use test_basics::Faults;
 use test_support::net_core;
 
 /// The number of clients.
@@ -37,6 +41,11 @@ fn message_of(alloc: Global, serial: u64, place: u64) -> Result<String, AllocErr
             "{{\"id\":[{serial},{place}],\"method\":\"echo\",\"params\":[{serial}]}}"
         ),
     }
+}
+
+/// Whether a client's message at a place is this.
+fn is_message(alloc: Global, message: &[u8], serial: u64, place: u64) -> Result<bool, AllocError> {
+    Ok(message == message_of(alloc, serial, place)?.as_bytes())
 }
 
 /// The number in the identifier of the row of an insert, which draws its version first.
@@ -70,7 +79,7 @@ fn update_of(alloc: Global, serial: u64, insert: u64) -> Result<String, AllocErr
 fn script_of(alloc: Global, serial: u64) -> Result<String, AllocError> {
     let mut script = String::new(alloc);
     for place in 0..4 {
-        script.push_str(message_of(alloc, serial, place)?.as_str())?;
+        push(&mut script, message_of(alloc, serial, place))?;
     }
     script.push_str("\nafter 0 push 256")?;
     Ok(script)
@@ -88,31 +97,26 @@ struct Wanted {
 impl Wanted {
     /// Takes a message of a client. If it is an insert, a client that has asked for a monitor receives the update first.
     fn take(&mut self, alloc: Global, from: u64, message: &[u8]) -> Result<(), AllocError> {
-        if message == message_of(alloc, from, INSERT)?.as_bytes() {
+        if is_message(alloc, message, from, INSERT)? {
             self.inserts = self.inserts.saturating_add(1);
             if self.taken >= INSERT {
-                self.push(update_of(alloc, from, self.inserts))?;
+                push(&mut self.lines, update_of(alloc, from, self.inserts))?;
             }
         }
         if from == self.serial {
-            self.answer(alloc, message)?;
+            return self.answer(alloc, message);
         }
         Ok(())
     }
 
     /// Answers the client's own message, which must be the next one of its script.
     fn answer(&mut self, alloc: Global, message: &[u8]) -> Result<(), AllocError> {
-        if message != message_of(alloc, self.serial, self.taken)?.as_bytes() {
+        if !is_message(alloc, message, self.serial, self.taken)? {
             return self.lines.push_str("another message");
         }
-        self.push(reply_of(alloc, self.serial, self.taken, self.inserts))?;
+        let reply = reply_of(alloc, self.serial, self.taken, self.inserts);
         self.taken = self.taken.saturating_add(1);
-        Ok(())
-    }
-
-    /// Adds a text.
-    fn push(&mut self, text: Result<String, AllocError>) -> Result<(), AllocError> {
-        self.lines.push_str(text?.as_str())
+        push(&mut self.lines, reply)
     }
 
     /// Adds the line of a client, according to the history.
@@ -123,7 +127,7 @@ impl Wanted {
         serial: u64,
     ) -> Result<(), AllocError> {
         (self.serial, self.taken, self.inserts) = (serial, 0, 0);
-        self.push(format!(in alloc; "{serial} InputEnded "))?;
+        push(&mut self.lines, format!(in alloc; "{serial} InputEnded "))?;
         for entry in history {
             if let Event::Take(session, message) = &entry.event {
                 self.take(alloc, session.serial, message.as_slice())?;
@@ -151,87 +155,88 @@ fn wanted_lines(alloc: Global, history: &VecDeque<Entry>) -> Result<String, Allo
 const COUNTING: &str =
     r#"{"id":0,"method":"transact","params":["Net",{"op":"mutate","table":"Switch","where":[],"mutations":[["load","+=",1]]}]}"#;
 
-/// Both texts if they differ.
-fn differing(alloc: Global, found: &str, wanted: &str) -> Result<Option<String>, AllocError> {
-    if found == wanted {
-        return Ok(None);
-    }
-    Ok(Some(format!(in alloc; "found {found}, wanted {wanted}")?))
-}
-
-/// How what remains of clients differs from what the history says, if it does.
-fn differing_from<R: Clock>(
+/// Fails unless what remains of clients is what the history says.
+fn fits_history<S: Drop>(
     alloc: Global,
-    gate: &HoldingGate<'_, R>,
     history: &VecDeque<Entry>,
-    ends: VecDeque<End<ClientReader<'_, '_, '_, R>, ClientWriter>>,
-) -> Result<Option<String>, AllocError> {
-    let lines = lines_of(alloc, gate, ends)?;
+    ends: &mut VecDeque<End<S, ClientWriter>>,
+    is_late: bool,
+) -> Result<(), Fail> {
     let wanted = wanted_lines(alloc, history)?;
-    differing(alloc, lines.as_str(), wanted.as_str())
-}
-
-/// What one more client is written at the desk of others; or how what remains of these differs from what the history says.
-fn counted<'g, 'r, 's, R: Threads + Wait + Clock + Sync>(
-    rt: &R,
-    alloc: Global,
-    gate: &HoldingGate<'r, R>,
-    served: ClientsServed<'g, 'r, 's, R>,
-) -> Result<String, AllocError> {
-    let Served { desk, ends } = served;
-    match differing_from(alloc, gate, desk.core().history(), ends) {
-        Ok(None) => converse_at(rt, alloc, desk, &[client_of(COUNTING)], gate),
-        Ok(Some(both)) => Ok(both),
-        Err(fault) => Err(fault),
-    }
-}
-
-/// What one more client is written, after these were served at a desk.
-fn counted_after<'g, 'r, 's, R: Threads + Wait + Clock + Sync>(
-    rt: &R,
-    alloc: Global,
-    desk: Desk<NetKeeper, Counter>,
-    links: VecDeque<Link<ClientReader<'g, 'r, 's, R>, ClientWriter>>,
-    gate: &HoldingGate<'r, R>,
-) -> Result<String, AllocError> {
-    match serve(rt, alloc, desk, links, gate) {
-        Ok(served) => counted(rt, alloc, gate, served),
-        Err(unserved) => refusal(alloc, unserved),
-    }
-}
-
-/// The same at a new desk.
-fn counted_at_new_desk<R: Threads + Wait + Clock + Sync>(
-    rt: &R,
-    alloc: Global,
-    clients: &[Client<'_>],
-    gate: &HoldingGate<'_, R>,
-) -> Result<String, Fail> {
-    let core = net_core(alloc, Faults::NONE)?;
-    let links = links_of(alloc, gate, clients)?;
-    Ok(counted_after(rt, alloc, Desk::new(alloc, core), links, gate)?)
-}
-
-/// What a client that counts the rows is written, after these were served at a new desk.
-fn served<R: Threads + Wait + Clock + Sync>(
-    rt: &R,
-    alloc: Global,
-    clients: &[Client<'_>],
-) -> Result<String, Fail> {
-    let gate = HoldingGate::new(rt, alloc, "")?;
-    counted_at_new_desk(rt, alloc, clients, &gate)
+    tells(alloc, lines_of(alloc, ends, is_late), wanted.as_str())
 }
 
 const COUNTED: &str = "65 InputEnded {\"error\":null,\"id\":0,\"result\":[{\"count\":64}]}\n";
 
-/// Fails unless a client counts 64 rows after these were served.
+/// Fails unless clients fitted the history, and one more counted 64 rows.
+fn is_counted(
+    alloc: Global,
+    fitted: Result<(), Fail>,
+    told: Result<String, AllocError>,
+) -> Result<(), Fail> {
+    fitted?;
+    tells(alloc, told, COUNTED)
+}
+
+/// Fails unless what remains of clients is what the history says, and one more counts 64 rows at their desk.
+fn counts<R, K, D, S>(
+    rt: &R,
+    alloc: Global,
+    gate: &HoldingGate<'_, R>,
+    served: Served<K, D, S, ClientWriter>,
+) -> Result<(), Fail>
+where
+    R: Threads + Wait + Clock + Sync,
+    K: Keeper + Drop,
+    D: Draws + Drop,
+    S: Drop,
+{
+    let Served { desk, mut ends } = served;
+    let fitted = fits_history(alloc, desk.core().history(), &mut ends, gate.is_late());
+    let told = converse_at(rt, alloc, desk, &[client_of(COUNTING)], gate);
+    is_counted(alloc, fitted, told)
+}
+
+/// Fails unless these are served at a desk, and so.
+fn counts_after<R, K, D, S>(
+    rt: &R,
+    alloc: Global,
+    desk: Desk<K, D>,
+    links: VecDeque<Link<S, ClientWriter>>,
+    gate: &HoldingGate<'_, R>,
+) -> Result<(), Fail>
+where
+    R: Threads + Wait + Clock + Sync,
+    K: Keeper + Drop,
+    D: Draws + Drop,
+    S: Source + Send + Drop,
+{
+    match serve(rt, alloc, desk, links, gate) {
+        Ok(served) => counts(rt, alloc, gate, served),
+        Err(unserved) => tells(alloc, refusal(alloc, unserved), COUNTED),
+    }
+}
+
+/// The same of clients at a new desk.
+fn are_served_at<R: Threads + Wait + Clock + Sync>(
+    rt: &R,
+    alloc: Global,
+    clients: &[Client<'_>],
+    gate: &HoldingGate<'_, R>,
+) -> Result<(), Fail> {
+    let links = links_of(alloc, gate, clients)?;
+    let core = net_core(alloc, Faults::NONE)?;
+    counts_after(rt, alloc, Desk::new(alloc, core), links, gate)
+}
+
+/// The same with a new gate.
 fn are_served<R: Threads + Wait + Clock + Sync>(
     rt: &R,
     alloc: Global,
     clients: &[Client<'_>],
 ) -> Result<(), Fail> {
-    let told = served(rt, alloc, clients)?;
-    is_text(alloc, told.as_str(), COUNTED)
+    let gate = HoldingGate::new(rt, alloc, NO_HOLDS)?;
+    are_served_at(rt, alloc, clients, &gate)
 }
 
 /// The scripts of all clients.

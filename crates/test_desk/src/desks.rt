@@ -1,16 +1,18 @@
-use crate::clients::{Client, ClientReader, ClientWriter, lines_of, links_of};
-use crate::holding::HoldingGate;
+use crate::clients::{Client, ClientWriter, lines_of, links_of};
+use crate::holding::{HoldingGate, Holds};
 use ov_desk::{Served, Unserved, serve_links};
-use ov_ends::Clock;
+use ov_ends::{Clock, Source};
+use ov_keeper::Keeper;
 use ov_lanes::{Desk, ServeFault};
-use ov_workers::Link;
+use ov_requests::Draws;
+use ov_workers::{Gate, Link};
 use std::alloc::{AllocError, Global};
 use std::collections::VecDeque;
 use std::rt::Clock as SystemClock;
 use std::sync::Wait;
 use std::test::Fail;
 use std::thread::Threads;
-use test_basics::{Counter, Faults, NetKeeper, is_text};
+use test_basics::{Faults, is_text};
 use test_support::net_core;
 
 /// A clock that returns a later moment at each call.
@@ -29,30 +31,21 @@ impl Clock for RisingClock {
     }
 }
 
-/// What remains of clients and their desk.
-pub(crate) type ClientsServed<'g, 'r, 's, R> = Served<
-    NetKeeper,
-    Counter,
-    ClientReader<'g, 'r, 's, R>,
-    ClientWriter,
->;
-
-/// What is handed back of clients that are not served.
-pub(crate) type ClientsUnserved<'g, 'r, 's, R> = Unserved<
-    NetKeeper,
-    Counter,
-    ClientReader<'g, 'r, 's, R>,
-    ClientWriter,
->;
-
-/// Serves the links of clients through their gate, by a clock that rises.
-pub(crate) fn serve<'g, 'r, 's, R: Threads + Wait + SystemClock + Sync>(
+/// Serves links through a gate, by a clock that rises.
+pub(crate) fn serve<R, K, D, S, G>(
     rt: &R,
     alloc: Global,
-    desk: Desk<NetKeeper, Counter>,
-    links: VecDeque<Link<ClientReader<'g, 'r, 's, R>, ClientWriter>>,
-    gate: &HoldingGate<'r, R>,
-) -> Result<ClientsServed<'g, 'r, 's, R>, ClientsUnserved<'g, 'r, 's, R>> {
+    desk: Desk<K, D>,
+    links: VecDeque<Link<S, ClientWriter>>,
+    gate: &G,
+) -> Result<Served<K, D, S, ClientWriter>, Unserved<K, D, S, ClientWriter>>
+where
+    R: Threads + Wait + SystemClock + Sync,
+    K: Keeper + Drop,
+    D: Draws + Drop,
+    S: Source + Send + Drop,
+    G: Gate + Sync,
+{
     serve_links(rt, alloc, desk, links, gate, &mut RisingClock { moment: 0 })
 }
 
@@ -66,38 +59,48 @@ fn fault_line(
     format!(in alloc; "{fault:?} {links} {entries}")
 }
 
-/// Why clients are not served, and the numbers of links and of history entries then.
-pub(crate) fn refusal<R: SystemClock>(
+/// Why links are not served, and the numbers of links and of history entries then.
+pub(crate) fn refusal<K: Keeper + Drop, D: Draws + Drop, S: Drop>(
     alloc: Global,
-    unserved: ClientsUnserved<'_, '_, '_, R>,
+    unserved: Unserved<K, D, S, ClientWriter>,
 ) -> Result<String, AllocError> {
-    let Unserved { fault, desk, links } = unserved;
-    let entries = desk.core().history().len();
-    fault_line(alloc, fault, links.len(), entries)
+    let entries = unserved.desk.core().history().len();
+    fault_line(alloc, unserved.fault, unserved.links.len(), entries)
 }
 
 /// A line for each link that is served at a desk, or why they are not served.
-fn lines_at<'g, 'r, 's, R: Threads + Wait + SystemClock + Sync>(
+fn lines_at<R, K, D, S>(
     rt: &R,
     alloc: Global,
-    desk: Desk<NetKeeper, Counter>,
-    links: VecDeque<Link<ClientReader<'g, 'r, 's, R>, ClientWriter>>,
-    gate: &HoldingGate<'r, R>,
-) -> Result<String, AllocError> {
+    desk: Desk<K, D>,
+    links: VecDeque<Link<S, ClientWriter>>,
+    gate: &HoldingGate<'_, R>,
+) -> Result<String, AllocError>
+where
+    R: Threads + Wait + SystemClock + Sync,
+    K: Keeper + Drop,
+    D: Draws + Drop,
+    S: Source + Send + Drop,
+{
     match serve(rt, alloc, desk, links, gate) {
-        Ok(served) => lines_of(alloc, gate, served.ends),
+        Ok(mut served) => lines_of(alloc, &mut served.ends, gate.is_late()),
         Err(unserved) => refusal(alloc, unserved),
     }
 }
 
 /// The outcome of clients at a desk, through their gate: a line for each client, or why they are not served.
-pub(crate) fn converse_at<R: Threads + Wait + SystemClock + Sync>(
+pub(crate) fn converse_at<R, K, D>(
     rt: &R,
     alloc: Global,
-    desk: Desk<NetKeeper, Counter>,
+    desk: Desk<K, D>,
     clients: &[Client<'_>],
     gate: &HoldingGate<'_, R>,
-) -> Result<String, AllocError> {
+) -> Result<String, AllocError>
+where
+    R: Threads + Wait + SystemClock + Sync,
+    K: Keeper + Drop,
+    D: Draws + Drop,
+{
     let links = links_of(alloc, gate, clients)?;
     lines_at(rt, alloc, desk, links, gate)
 }
@@ -113,11 +116,11 @@ fn converse_after<R: Threads + Wait + SystemClock + Sync>(
     Ok(converse_at(rt, alloc, Desk::new(alloc, core), clients, gate)?)
 }
 
-/// The outcome of clients at a new desk whose workers are held up as `holds` says.
+/// The outcome of clients at a new desk whose workers are held up so.
 pub(crate) fn converse<R: Threads + Wait + SystemClock + Sync>(
     rt: &R,
     alloc: Global,
-    holds: &str,
+    holds: Holds,
     clients: &[Client<'_>],
 ) -> Result<String, Fail> {
     let gate = HoldingGate::new(rt, alloc, holds)?;
@@ -128,7 +131,7 @@ pub(crate) fn converse<R: Threads + Wait + SystemClock + Sync>(
 pub(crate) fn conversed<R: Threads + Wait + SystemClock + Sync>(
     rt: &R,
     alloc: Global,
-    holds: &str,
+    holds: Holds,
     clients: &[Client<'_>],
     wanted: &str,
 ) -> Result<(), Fail> {

@@ -16,46 +16,46 @@ const TURNS: u32 = 10_000;
 /// together.
 #[derive(Clone, Copy, PartialEq, Eq)]
 pub(crate) struct Mark {
-    serial: u64,
-    point: Point,
-    times: u64,
+    pub serial: u64,
+    pub point: Point,
+    pub times: u64,
+}
+
+/// The point of a word.
+fn point_of(word: &str) -> Option<Point> {
+    match word {
+        "push" => Some(Point::BeforePush),
+        "frame" => Some(Point::BeforeWrite),
+        _ => None,
+    }
 }
 
 impl Mark {
     /// The mark of a text: `SERIAL push TIMES` before an item is pushed, or `SERIAL frame TIMES` before a frame is written.
     pub(crate) fn read(text: &str) -> Option<Mark> {
-        let (serial, rest) = text.split_once(" ")?;
-        let (word, times) = rest.split_once(" ")?;
-        let point = match word {
-            "push" => Point::BeforePush,
-            "frame" => Point::BeforeWrite,
-            _ => return None,
-        };
-        Some(Mark {
-            serial: serial.parse::<u64>().ok()?,
-            point,
-            times: times.parse::<u64>().ok()?,
-        })
+        let (serial, rest) = text.split_once(" ").unwrap_or((text, ""));
+        let (word, times) = rest.split_once(" ").unwrap_or((rest, ""));
+        let serial = serial.parse::<u64>();
+        let times = times.parse::<u64>();
+        match (serial, point_of(word), times) {
+            (Ok(serial), Some(point), Ok(times)) => Some(Mark {
+                serial,
+                point,
+                times,
+            }),
+            _ => None,
+        }
     }
 }
 
 /// A worker that reaches the first mark is held up until the second has been reached.
-type Hold = (Mark, Mark);
+pub(crate) type Hold = (Mark, Mark);
 
-/// The hold of a line `MARK until MARK`.
-fn hold_of(line: &str) -> Option<Hold> {
-    let (held, until) = line.split_once(" until ")?;
-    Some((Mark::read(held)?, Mark::read(until)?))
-}
+/// The holds of a gate.
+pub(crate) type Holds = [Option<Hold>; 4];
 
-/// The holds of a text, one per line.
-fn holds_of(alloc: Global, text: &str) -> Result<Vec<Hold>, Fail> {
-    let mut holds = Vec::new(alloc);
-    for line in text.lines() {
-        holds.push(hold_of(line).ok_or("no hold")?)?;
-    }
-    Ok(holds)
-}
+/// Nobody is held up.
+pub(crate) const NO_HOLDS: Holds = [None, None, None, None];
 
 /// A count for each serial.
 fn new_counts(alloc: Global) -> Result<Vec<AtomicU64>, Fail> {
@@ -72,20 +72,22 @@ fn new_counts(alloc: Global) -> Result<Vec<AtomicU64>, Fail> {
 #[derive(Drop)]
 pub(crate) struct HoldingGate<'a, R: Clock> {
     rt: &'a R,
-    holds: Vec<Hold>,
+    holds: Holds,
     pushes: Vec<AtomicU64>,
     frames: Vec<AtomicU64>,
     is_late: AtomicBool,
 }
 
 impl<'a, R: Clock> HoldingGate<'a, R> {
-    /// A gate that nobody has reached yet. The holds are lines `MARK until MARK`.
-    pub(crate) fn new(rt: &'a R, alloc: Global, holds: &str) -> Result<HoldingGate<'a, R>, Fail> {
+    /// A gate that nobody has reached yet, with these holds.
+    pub(crate) fn new(rt: &'a R, alloc: Global, holds: Holds) -> Result<HoldingGate<'a, R>, Fail> {
+        let pushes = new_counts(alloc)?;
+        let frames = new_counts(alloc)?;
         Ok(HoldingGate {
             rt,
-            holds: holds_of(alloc, holds)?,
-            pushes: new_counts(alloc)?,
-            frames: new_counts(alloc)?,
+            holds,
+            pushes,
+            frames,
             is_late: AtomicBool::new(false),
         })
     }
@@ -127,9 +129,11 @@ impl<R: Clock> Gate for HoldingGate<'_, R> {
             point,
             times: self.count(serial, point, 1).saturating_add(1),
         };
-        for (held, until) in &self.holds {
-            if *held == come {
-                self.wait(*until);
+        for hold in &self.holds {
+            if let Some((held, until)) = hold {
+                if *held == come {
+                    self.wait(*until);
+                }
             }
         }
     }

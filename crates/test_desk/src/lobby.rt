@@ -1,6 +1,7 @@
 //! A lobby and its clients, which come when their listener gives them, with what each of them was written.
 
 use crate::desks::RisingClock;
+use crate::told::{push, tells};
 use ov_desk::serve_lobby;
 use ov_ends::Watched;
 use ov_keeper::Keeper;
@@ -16,7 +17,7 @@ use std::test::Fail;
 use std::thread::Threads;
 use std::time::Duration;
 use std::{io, thread};
-use test_basics::{Faults, is_text};
+use test_basics::Faults;
 use test_support::net_core;
 
 /// The largest number of clients.
@@ -33,6 +34,17 @@ struct Seen {
     told: AtomicU64,
     is_read: AtomicBool,
     closed: AtomicU64,
+}
+
+impl Seen {
+    /// Whether the client was told, or else is closed. It is told once what it was written was flushed, and closed once both its
+    /// ends are closed.
+    fn is_so(&self, word: &str) -> bool {
+        if word == "told" {
+            return self.told.load(Ordering::SeqCst) > 0;
+        }
+        self.closed.load(Ordering::SeqCst) == 2
+    }
 }
 
 /// What is seen of all clients, and whether their listener was dropped. If one waits too long, it is let go, and all others
@@ -72,19 +84,19 @@ impl<'r, R: Wait + Clock> Board<'r, R> {
         }
     }
 
-    /// Whether `CLIENT told`, `CLIENT closed` or `listener closed` has come true. A client is told once what it was written was
-    /// flushed, and closed once both its ends are closed.
+    /// Whether `CLIENT told`, `CLIENT closed` or `listener closed` has come true.
     fn is_so(&self, fact: &str) -> bool {
-        if fact == "listener closed" {
-            return self.is_deaf.load(Ordering::SeqCst);
+        let (client, word) = fact.split_once(" ").unwrap_or((fact, ""));
+        match client.parse::<usize>() {
+            Ok(client) => self.is_so_of(client, word),
+            Err(_) => self.is_deaf.load(Ordering::SeqCst),
         }
-        let Some((client, word)) = fact.split_once(" ") else {
-            return false;
-        };
-        let at = client.parse::<usize>().unwrap_or(CLIENTS);
-        match self.clients.get(at) {
-            Some(seen) if word == "told" => seen.told.load(Ordering::SeqCst) > 0,
-            Some(seen) => seen.closed.load(Ordering::SeqCst) == 2,
+    }
+
+    /// Whether a client was told, or else is closed.
+    fn is_so_of(&self, client: usize, word: &str) -> bool {
+        match self.clients.get(client) {
+            Some(seen) => seen.is_so(word),
             None => false,
         }
     }
@@ -278,21 +290,22 @@ fn told_of<R: Wait + Clock>(
 ) -> Result<String, AllocError> {
     let mut told = format!(in alloc; "{entries}\n")?;
     for client in 0..clients {
-        told.push_str(board.line(alloc, client)?.as_str())?;
+        push(&mut told, board.line(alloc, client))?;
     }
-    if board.is_late.load(Ordering::SeqCst) {
-        told.push_str("too late\n")?;
-    }
+    let is_late = board.is_late.load(Ordering::SeqCst);
+    told.push_str(if is_late { "too late\n" } else { "" })?;
     Ok(told)
 }
 
-/// The outcome of clients at a lobby with this board: how many entries the history then has, and a line for each client.
-fn converse_on<R: Threads + Wait + Clock + Sync>(
+/// Fails unless this is the outcome of clients at a lobby with this board: how many entries the history then has, and a line
+/// for each client.
+fn conversed_on<R: Threads + Wait + Clock + Sync>(
     rt: &R,
     alloc: Global,
     board: &Board<'_, R>,
     clients: &[Coming<'_>],
-) -> Result<String, Fail> {
+    wanted: &str,
+) -> Result<(), Fail> {
     let desk = Desk::new(alloc, net_core(alloc, Faults::NONE)?);
     let listener = LobbyListener {
         board,
@@ -300,17 +313,7 @@ fn converse_on<R: Threads + Wait + Clock + Sync>(
         clients,
     };
     let entries = serve_clients(rt, alloc, desk, listener);
-    Ok(told_of(alloc, board, entries, clients.len())?)
-}
-
-/// The same with a new board.
-fn converse<R: Threads + Wait + Clock + Sync>(
-    rt: &R,
-    alloc: Global,
-    clients: &[Coming<'_>],
-) -> Result<String, Fail> {
-    let board = Board::new(rt, alloc)?;
-    converse_on(rt, alloc, &board, clients)
+    tells(alloc, told_of(alloc, board, entries, clients.len()), wanted)
 }
 
 /// Fails unless this is the outcome of clients at a lobby.
@@ -320,8 +323,8 @@ fn conversed<R: Threads + Wait + Clock + Sync>(
     clients: &[Coming<'_>],
     wanted: &str,
 ) -> Result<(), Fail> {
-    let told = converse(rt, alloc, clients)?;
-    is_text(alloc, told.as_str(), wanted)
+    let board = Board::new(rt, alloc)?;
+    conversed_on(rt, alloc, &board, clients, wanted)
 }
 
 const LIST: &str = r#"{"id":0,"method":"list_dbs","params":[]}"#;

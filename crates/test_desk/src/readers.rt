@@ -2,7 +2,7 @@ ghost use Rattle.std.specs.Prelude.{◌≡◌, []};
 ghost use Rattle.rtrb.specs.Ring.{sent};
 
 use crate::gates::CountingGate;
-use crate::told::{begin, next, noted, tells_bytes};
+use crate::told::{begin, next, noted, push, tells};
 use ov_ends::Watched;
 use ov_order::{Brought, Noter, Order, inbound_ring};
 use ov_rpc::Received;
@@ -54,39 +54,29 @@ pub(crate) fn reader_of(rest: &[u8], most: usize) -> PieceReader<'_> {
 /// What a ring to the desk has: messages, and last the end mark with the cause.
 pub(crate) type Item = Brought<Received, ReadCause>;
 
-/// Adds the text of a message.
-fn push_message(lines: &mut Vec<u8>, received: Received) -> Result<(), AllocError> {
-    let (_incoming, text) = received.into_parts();
-    lines.extend_from_slice(text.as_slice())?;
-    Ok(())
+/// The line of a message: its text.
+fn message_line(alloc: Global, received: Received) -> Result<String, AllocError> {
+    let text = received.into_parts().1;
+    let text = str::from_utf8(text.as_slice()).unwrap_or("no text");
+    format!(in alloc; "{text}\n")
 }
 
-/// Adds the cause of an end mark.
-fn push_cause(alloc: Global, lines: &mut Vec<u8>, cause: ReadCause) -> Result<(), AllocError> {
-    let word = format!(in alloc; "{cause:?}")?;
-    lines.extend_from_slice(word.as_bytes())?;
-    Ok(())
-}
-
-/// Adds the line of an item: the text of a message, or the cause of an end mark.
-fn push_item(alloc: Global, lines: &mut Vec<u8>, item: Item) -> Result<(), AllocError> {
+/// The line of an item: the text of a message, or the cause of an end mark.
+fn item_line(alloc: Global, item: Item) -> Result<String, AllocError> {
     match item {
-        Brought::Message(received) => push_message(lines, received)?,
-        Brought::End(cause) => push_cause(alloc, lines, cause)?,
+        Brought::Message(received) => message_line(alloc, received),
+        Brought::End(cause) => format!(in alloc; "{cause:?}\n"),
     }
-    lines.push(b'\n')?;
-    Ok(())
 }
 
 /// The lines of the items in the ring.
-fn lines_of(alloc: Global, ring: Consumer<Item>) -> Result<Vec<u8>, AllocError> {
-    let mut ring = ring;
-    let mut lines = Vec::new(alloc);
+fn lines_of(alloc: Global, ring: &mut Consumer<Item>) -> Result<String, AllocError> {
+    let mut lines = String::new(alloc);
     for _ in 0..64 {
         let Ok(item) = ring.pop() else {
             break;
         };
-        push_item(alloc, &mut lines, item)?;
+        push(&mut lines, item_line(alloc, item))?;
     }
     Ok(lines)
 }
@@ -103,12 +93,11 @@ fn noted_text(alloc: Global, noted: Noted, passed: u64) -> Result<String, AllocE
 /// The lines of the items in the ring, and a last one.
 fn with_last(
     alloc: Global,
-    ring: Consumer<Item>,
+    ring: &mut Consumer<Item>,
     last: Result<String, AllocError>,
-) -> Result<Vec<u8>, AllocError> {
-    let last = last?;
+) -> Result<String, AllocError> {
     let mut lines = lines_of(alloc, ring)?;
-    lines.extend_from_slice(last.as_bytes())?;
+    push(&mut lines, last)?;
     Ok(lines)
 }
 
@@ -130,27 +119,40 @@ fn bring<R: Wait, L: Ledger>(
 
 /// What a worker brings from a reader, then how many notes it made, the first of them, how often it passed the gate, and its
 /// cause.
+fn read_with<R: Wait, L: Ledger>(
+    rt: &R,
+    alloc: Global,
+    order: &Order<L>,
+    share: Share<L>,
+    reader: PieceReader<'_>,
+) -> Result<String, AllocError>
+    requires { (share.parts ≡ L.parts) × (share.parts ≡ 1) × (share.amount ≡ 0) }
+{
+    let (ring, mut desk) = inbound_ring(alloc)?;
+    let gate = CountingGate::new(Point::BeforePush);
+    let common = Common {
+        rt,
+        alloc,
+        order,
+        gate: &gate,
+    };
+    let noted = bring(common, reader, ring, share);
+    with_last(alloc, &mut desk, noted_text(alloc, noted, gate.passed()))
+}
+
+/// The same with a new order.
 fn read_by<R: Wait, L: Ledger>(
     rt: &R,
     alloc: Global,
     blank: Blank,
     reader: PieceReader<'_>,
-) -> Result<Vec<u8>, AllocError>
+) -> Result<String, AllocError>
     requires name { blank.name ≡ L.name }
     requires parts { (blank.parts ≡ L.parts) × (blank.parts ≡ 1) }
 {
     let (ledger, share) = blank.open::<L>();
     let order = Order::new(alloc, ledger)?;
-    let (ring, desk) = inbound_ring(alloc)?;
-    let gate = CountingGate::new(Point::BeforePush);
-    let common = Common {
-        rt,
-        alloc,
-        order: &order,
-        gate: &gate,
-    };
-    let noted = bring(common, reader, ring, share);
-    with_last(alloc, desk, noted_text(alloc, noted, gate.passed()))
+    read_with(rt, alloc, &order, share, reader)
 }
 
 /// Fails unless a worker brings this from a reader.
@@ -161,7 +163,7 @@ fn brings<R: Wait>(
     wanted: &str,
 ) -> Result<(), Fail> {
     let lines = read_by::<R, Brand>(rt, alloc, Blank::new(1), reader);
-    tells_bytes(alloc, lines, wanted)
+    tells(alloc, lines, wanted)
 }
 
 const TWO_MESSAGES: &str = r#"{"id":0,"method":"echo","params":[]}
@@ -247,32 +249,45 @@ fn dismissed_text(
 }
 
 /// What a worker brought that was dismissed, and the same.
-fn dismissed<R: Threads + Wait + Sync, L: Ledger + Send + Sync>(
+fn dismissed_with<R: Threads + Wait + Sync, L: Ledger + Send + Sync>(
     rt: &R,
     alloc: Global,
-    blank: Blank,
-) -> Result<Vec<u8>, AllocError>
-    requires name { blank.name ≡ L.name }
-    requires parts { (blank.parts ≡ L.parts) × (blank.parts ≡ 1) }
+    order: &Order<L>,
+    share: Share<L>,
+    hand: HandRing<Watched<PieceReader<'static>>>,
+) -> Result<String, AllocError>
+    requires { (share.parts ≡ 1) × (share.amount ≡ 0) }
 {
-    let (ledger, share) = blank.open::<L>();
-    let order = Order::new(alloc, ledger)?;
-    let (ring, desk) = inbound_ring(alloc)?;
-    let hand = HandRing::new(alloc)?;
+    let (ring, mut desk) = inbound_ring(alloc)?;
     let gate = CountingGate::new(Point::BeforePush);
     let common = Common {
         rt,
         alloc,
-        order: &order,
+        order,
         gate: &gate,
     };
     let is_dismissed = dismiss(common, hand, Inlet::new(ring, Noter::new(7, share)));
-    let told = dismissed_text(alloc, is_dismissed, next(rt, &order), gate.passed());
-    with_last(alloc, desk, told)
+    let told = dismissed_text(alloc, is_dismissed, next(rt, order), gate.passed());
+    with_last(alloc, &mut desk, told)
+}
+
+/// The same with a new order.
+fn dismissed<R: Threads + Wait + Sync, L: Ledger + Send + Sync>(
+    rt: &R,
+    alloc: Global,
+    blank: Blank,
+) -> Result<String, AllocError>
+    requires name { blank.name ≡ L.name }
+    requires parts { (blank.parts ≡ L.parts) × (blank.parts ≡ 1) }
+{
+    let hand = HandRing::new(alloc)?;
+    let (ledger, share) = blank.open::<L>();
+    let order = Order::new(alloc, ledger)?;
+    dismissed_with(rt, alloc, &order, share, hand)
 }
 
 #[test]
 fn a_reader_that_may_not_begin_brings_nothing(rt: HostRuntime) -> Result<(), Fail> {
     let lines = dismissed::<HostRuntime, Brand>(&rt, rt.alloc(), Blank::new(1));
-    tells_bytes(rt.alloc(), lines, "true None 0")
+    tells(rt.alloc(), lines, "true None 0")
 }

@@ -76,8 +76,10 @@ fn served_of<R: Wait, L: Ledger>(
     read: ReadLeft<SessionReader, L>,
     wrote: WriteLeft<SessionWriter<'_, R>>,
 ) -> Served {
-    let taken = wrote.writer?.into_inner().taken;
-    Some((read.cause, taken))
+    let cause = read.cause;
+    drop(read);
+    let writer = wrote.writer?;
+    Some((cause, writer.into_inner().taken))
 }
 
 /// Does what a desk does for a session: hands the workers the two ends of its link, sends three frames and joins the workers.
@@ -181,17 +183,15 @@ fn told_of(
     format!(in alloc; "{cause:?} {written} {first:?} {passed} {is_over}")
 }
 
-/// The same for a session with a ledger and an order of its own.
-fn serve<R: Threads + Wait + Sync, L: Ledger + Send + Sync>(
+/// The same for a session with this order.
+fn serve_with<R: Threads + Wait + Sync, L: Ledger + Send + Sync>(
     rt: &R,
     alloc: Global,
-    blank: Blank,
+    order: &Order<L>,
+    share: Share<L>,
 ) -> Result<String, AllocError>
-    requires name { blank.name ≡ L.name }
-    requires parts { (blank.parts ≡ L.parts) × (blank.parts ≡ 1) }
+    requires { (share.parts ≡ 1) × (share.amount ≡ 0) }
 {
-    let (ledger, share) = blank.open::<L>();
-    let order = Order::new(alloc, ledger)?;
     let flushed = Bell::new();
     let (ends, desk) = ends_of(rt, alloc, &flushed, share)?;
     let Desk {
@@ -203,17 +203,31 @@ fn serve<R: Threads + Wait + Sync, L: Ledger + Send + Sync>(
     let common = Common {
         rt,
         alloc,
-        order: &order,
+        order,
         gate: &gate,
     };
     let served = in_scope(common, &bell, &flushed, ends, out);
     told_of(
         alloc,
         served,
-        next(rt, &order),
+        next(rt, order),
         gate.passed(),
         bell.is_over(),
     )
+}
+
+/// The same with a ledger and an order of its own.
+fn serve<R: Threads + Wait + Sync, L: Ledger + Send + Sync>(
+    rt: &R,
+    alloc: Global,
+    blank: Blank,
+) -> Result<String, AllocError>
+    requires name { blank.name ≡ L.name }
+    requires parts { (blank.parts ≡ L.parts) × (blank.parts ≡ 1) }
+{
+    let (ledger, share) = blank.open::<L>();
+    let order = Order::new(alloc, ledger)?;
+    serve_with(rt, alloc, &order, share)
 }
 
 #[test]

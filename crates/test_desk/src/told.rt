@@ -18,13 +18,9 @@ pub(crate) fn tells(
     is_text(alloc, told?.as_str(), wanted)
 }
 
-/// Fails unless these bytes were made, and are this text.
-pub(crate) fn tells_bytes(
-    alloc: Global,
-    told: Result<Vec<u8>, AllocError>,
-    wanted: &str,
-) -> Result<(), Fail> {
-    is_text(alloc, str::from_utf8(told?.as_slice())?, wanted)
+/// Adds a text that was made. No caller keeps it, which makes their proofs smaller.
+pub(crate) fn push(text: &mut String, more: Result<String, AllocError>) -> Result<(), AllocError> {
+    text.push_str(more?.as_str())
 }
 
 /// Says whether the workers may begin.

@@ -1,15 +1,17 @@
 //! A desk that takes one item at a time: from which ring, and what it then puts into the rings of all sessions.
 
 use ov_base::Bytes;
-use ov_core::{Cause, Session};
+use ov_core::{Cause, Core, Session};
+use ov_keeper::Keeper;
 use ov_lanes::{Desk, Lane};
 use ov_order::{Brought, Sent, inbound_ring, outbound_ring};
+use ov_requests::Draws;
 use ov_rpc::Received;
 use ov_workers::ReadCause;
 use rtrb::{Consumer, Producer};
 use std::alloc::{AllocError, Global};
 use std::test::Fail;
-use test_basics::{Counter, Faults, NetKeeper, Scripted, agrees};
+use test_basics::{Faults, Scripted, agrees};
 use test_support::net_core;
 
 /// The workers' ends of a session's rings.
@@ -75,8 +77,8 @@ fn take_all(alloc: Global, side: &mut Side) -> Result<String, AllocError> {
 
 /// A desk, and the workers' sides of the sessions that it serves.
 #[derive(Drop)]
-struct Bench {
-    desk: Desk<NetKeeper, Counter>,
+struct Bench<K: Keeper, D: Draws> {
+    desk: Desk<K, D>,
     sides: Vec<Side>,
 }
 
@@ -86,13 +88,13 @@ fn side_of(sides: &mut Vec<Side>, serial: u64) -> Option<&mut Side> {
     sides.get_mut(at)
 }
 
-impl Bench {
+impl<K: Keeper + Drop, D: Draws + Drop> Bench<K, D> {
     /// Gives a session a place.
     fn place(&mut self, alloc: Global, session: Session) -> Result<(), AllocError> {
         let (lane, side) = sides_of(alloc, session)?;
-        self.desk.lanes.push(Some(lane))?;
+        let has_room = self.desk.lanes.push(Some(lane)).is_ok();
         self.sides.push(side)?;
-        Ok(())
+        if has_room { Ok(()) } else { Err(AllocError) }
     }
 
     /// Opens a session, gives it a place, and returns its serial.
@@ -164,7 +166,7 @@ fn side_answer(
     }
 }
 
-impl Scripted for Bench {
+impl<K: Keeper + Drop, D: Draws + Drop> Scripted for Bench<K, D> {
     /// The commands: `opens` a session; `brings SERIAL MESSAGE` to the desk; `turns SERIAL`, whether the desk took an item;
     /// `fills SERIAL COUNT`, brings an echo and has it taken, COUNT times; `takes SERIAL`, what is in the ring to the writer;
     /// `cause SERIAL`, why the session was closed.
@@ -180,11 +182,21 @@ impl Scripted for Bench {
     }
 }
 
-/// Fails unless a new desk answers this script.
-fn answers(alloc: Global, script: &str) -> Result<(), Fail> {
-    let desk = Desk::new(alloc, net_core(alloc, Faults::NONE)?);
+/// Fails unless a desk over this machine answers this script.
+fn answers_over<K: Keeper + Drop, D: Draws + Drop>(
+    alloc: Global,
+    core: Core<K, D>,
+    script: &str,
+) -> Result<(), Fail> {
+    let desk = Desk::new(alloc, core);
     let sides = Vec::new(alloc);
     agrees(alloc, Bench { desk, sides }, script)
+}
+
+/// Fails unless a new desk answers this script.
+fn answers(alloc: Global, script: &str) -> Result<(), Fail> {
+    let core = net_core(alloc, Faults::NONE)?;
+    answers_over(alloc, core, script)
 }
 
 /// Both sessions have a message, and the second gets a turn first. No session has the serial 3.

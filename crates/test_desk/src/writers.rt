@@ -1,8 +1,8 @@
-ghost use Rattle.std.specs.Prelude.{◌≡◌, []};
+ghost use Rattle.std.specs.Prelude.{◌≡◌, [], IfOk};
 ghost use Rattle.rtrb.specs.Ring.{received};
 
 use crate::gates::CountingGate;
-use crate::told::{begin, tells, tells_bytes};
+use crate::told::{begin, tells};
 use ov_base::Bytes;
 use ov_ends::Watched;
 use ov_order::{Bell, Order, Sent, outbound_ring};
@@ -73,17 +73,10 @@ fn send(alloc: Global, ring: &mut Producer<Sent>) -> Result<(), AllocError> {
 type Ended = (bool, bool, u64);
 
 /// What was written, and what a worker did, with how often it passed the gate before its flushes.
-fn told_of(
-    alloc: Global,
-    taken: Vec<u8>,
-    ended: Ended,
-    passed: u64,
-) -> Result<Vec<u8>, AllocError> {
+fn told_of(alloc: Global, taken: Vec<u8>, ended: Ended, passed: u64) -> Result<String, AllocError> {
     let (failed, is_empty, flushes) = ended;
-    let told = format!(in alloc; " {failed} {is_empty} {passed} {flushes}")?;
-    let mut lines = taken;
-    lines.extend_from_slice(told.as_bytes())?;
-    Ok(lines)
+    let taken = str::from_utf8(taken.as_slice()).unwrap_or("no text");
+    format!(in alloc; "{taken} {failed} {is_empty} {passed} {flushes}")
 }
 
 /// Has a worker write what is in its ring to such a writer. Returns what was written, and what it did.
@@ -105,32 +98,53 @@ fn write<R: Wait, L: Ledger>(
     (taken, (failed, ring.pop().is_err(), flushes))
 }
 
-/// What a worker writes of two frames to such a writer.
-fn written_by<R: Wait, L: Ledger>(
+/// A ring with two frames and the end mark in it.
+fn sent_ring(alloc: Global) -> Result<(Producer<Sent>, Consumer<Sent>), AllocError>
+    ensures { IfOk result (λ ring. received ring.1 ≡ []) }
+{
+    let (mut desk, ring) = outbound_ring(alloc)?;
+    match send(alloc, &mut desk) {
+        Ok(()) => Ok((desk, ring)),
+        Err(fault) => Err(fault),
+    }
+}
+
+/// What a worker writes of two frames to such a writer, with this order.
+fn written_with<R: Wait, L: Ledger>(
     rt: &R,
     alloc: Global,
-    blank: Blank,
+    order: &Order<L>,
     left: usize,
     fails: bool,
-) -> Result<Vec<u8>, AllocError>
-    requires name { blank.name ≡ L.name }
-    requires parts { (blank.parts ≡ L.parts) × (blank.parts ≡ 1) }
-{
-    let (ledger, _share) = blank.open::<L>();
-    let order = Order::new(alloc, ledger)?;
-    let (mut desk, ring) = outbound_ring(alloc)?;
-    send(alloc, &mut desk)?;
+) -> Result<String, AllocError> {
+    let (_desk, ring) = sent_ring(alloc)?;
     let bell = Bell::new();
     bell.ring(rt);
     let gate = CountingGate::new(Point::BeforeWrite);
     let common = Common {
         rt,
         alloc,
-        order: &order,
+        order,
         gate: &gate,
     };
     let (taken, ended) = write(common, &bell, writer_of(alloc, left, fails), ring);
     told_of(alloc, taken, ended, gate.passed())
+}
+
+/// The same with a new order.
+fn written_by<R: Wait, L: Ledger>(
+    rt: &R,
+    alloc: Global,
+    blank: Blank,
+    left: usize,
+    fails: bool,
+) -> Result<String, AllocError>
+    requires name { blank.name ≡ L.name }
+    requires parts { (blank.parts ≡ L.parts) × (blank.parts ≡ 1) }
+{
+    let (ledger, _share) = blank.open::<L>();
+    let order = Order::new(alloc, ledger)?;
+    written_with(rt, alloc, &order, left, fails)
 }
 
 /// Fails unless a worker writes this.
@@ -141,8 +155,8 @@ fn writes<R: Wait>(
     fails: bool,
     wanted: &str,
 ) -> Result<(), Fail> {
-    let lines = written_by::<R, Brand>(rt, alloc, Blank::new(1), left, fails);
-    tells_bytes(alloc, lines, wanted)
+    let told = written_by::<R, Brand>(rt, alloc, Blank::new(1), left, fails);
+    tells(alloc, told, wanted)
 }
 
 #[test]
@@ -207,7 +221,31 @@ fn dismissed_text(
     format!(in alloc; "{is_dismissed} {is_over} {left} {passed}")
 }
 
-/// The same for a new ring.
+/// The room of a ring to a writer.
+const ROOM: usize = 1_025;
+
+/// The same for a new ring, with this order.
+fn dismissed_with<R: Threads + Wait + Sync, L: Ledger + Send + Sync>(
+    rt: &R,
+    alloc: Global,
+    order: &Order<L>,
+    hand: HandRing<Watched<ShortWriter>>,
+) -> Result<String, AllocError> {
+    let (mut desk, ring) = sent_ring(alloc)?;
+    let bell = Bell::new();
+    let gate = CountingGate::new(Point::BeforeWrite);
+    let common = Common {
+        rt,
+        alloc,
+        order,
+        gate: &gate,
+    };
+    let is_dismissed = dismiss(common, &bell, hand, ring);
+    let left = ROOM.saturating_sub(desk.slots());
+    dismissed_text(alloc, is_dismissed, bell.is_over(), left, gate.passed())
+}
+
+/// The same with a new order.
 fn dismissed<R: Threads + Wait + Sync, L: Ledger + Send + Sync>(
     rt: &R,
     alloc: Global,
@@ -216,23 +254,10 @@ fn dismissed<R: Threads + Wait + Sync, L: Ledger + Send + Sync>(
     requires name { blank.name ≡ L.name }
     requires parts { (blank.parts ≡ L.parts) × (blank.parts ≡ 1) }
 {
+    let hand = HandRing::new(alloc)?;
     let (ledger, _share) = blank.open::<L>();
     let order = Order::new(alloc, ledger)?;
-    let hand = HandRing::new(alloc)?;
-    let (mut desk, ring) = outbound_ring(alloc)?;
-    let room = desk.slots();
-    send(alloc, &mut desk)?;
-    let bell = Bell::new();
-    let gate = CountingGate::new(Point::BeforeWrite);
-    let common = Common {
-        rt,
-        alloc,
-        order: &order,
-        gate: &gate,
-    };
-    let is_dismissed = dismiss(common, &bell, hand, ring);
-    let left = room.saturating_sub(desk.slots());
-    dismissed_text(alloc, is_dismissed, bell.is_over(), left, gate.passed())
+    dismissed_with(rt, alloc, &order, hand)
 }
 
 #[test]

@@ -2,12 +2,15 @@
 
 use crate::addresses::address_of;
 use ov_base::Text;
+use ov_core::Core;
 use ov_desk::End;
 use ov_ends::{Clock as MomentClock, Sink, Source};
+use ov_keeper::Keeper;
 use ov_listen::{
     DatabaseEnded, Endpoint, MonotonicClock, Pipes, Service, pipes_over, serve_at,
     serve_connections, serve_memory,
 };
+use ov_requests::Draws;
 use ov_schema::text_of;
 use ov_sockets::{ClientReader, ClientWriter, accept_all, listen};
 use ov_words::Ending;
@@ -108,17 +111,27 @@ fn told_of_ends(
     Ok(format!(in alloc; "{ending:?} {serials:?}")?)
 }
 
-/// The same of sessions over these connections, with a new in-memory database Net.
+/// The same of sessions over these connections, by this machine.
+fn served_by<R: Threads + Wait + Clock + Sync, K: Keeper + Drop, D: Draws + Drop>(
+    rt: &R,
+    alloc: Global,
+    core: Core<K, D>,
+    links: VecDeque<Link<ClientReader, ClientWriter>>,
+) -> Result<String, Fail> {
+    match serve_connections(rt, alloc, core, links, &mut MonotonicClock::new(rt)) {
+        Ok(served) => told_of_ends(alloc, Ending::InputEnded, &served.ends),
+        Err(ended) => told_of_ends(alloc, ended.ending, &ended.ends),
+    }
+}
+
+/// The same with a new in-memory database Net.
 fn served<R: Threads + Wait + Clock + Sync>(
     rt: &R,
     alloc: Global,
     links: VecDeque<Link<ClientReader, ClientWriter>>,
 ) -> Result<String, Fail> {
     let core = net_core(alloc, Faults::NONE)?;
-    match serve_connections(rt, alloc, core, links, &mut MonotonicClock::new(rt)) {
-        Ok(served) => told_of_ends(alloc, Ending::InputEnded, &served.ends),
-        Err(ended) => told_of_ends(alloc, ended.ending, &ended.ends),
-    }
+    served_by(rt, alloc, core, links)
 }
 
 /// A client that waits for a while.
@@ -177,14 +190,24 @@ fn two_clients_share_a_lock(rt: HostRuntime) -> Result<(), Fail> {
     two_share_a_lock(&rt, rt.alloc(), &listener)
 }
 
-/// How a session at an address ends, with a new in-memory database Net.
+/// How a session at an address ends, by this machine.
+fn ending_by<R, K, D>(rt: &R, alloc: Global, core: Core<K, D>, address: &str) -> Ending
+where
+    R: Net<Listener = TcpListener, Stream = TcpStream> + Threads + Wait + Clock + Eprint + Sync,
+    K: Keeper + Drop,
+    D: Draws + Drop,
+{
+    let clock = &mut MonotonicClock::new(rt);
+    serve_at(rt, alloc, core, address, Some(1), clock).ending
+}
+
+/// The same with a new in-memory database Net.
 fn ending_at<R>(rt: &R, alloc: Global, address: &str) -> Result<Ending, Fail>
 where
     R: Net<Listener = TcpListener, Stream = TcpStream> + Threads + Wait + Clock + Eprint + Sync,
 {
     let core = net_core(alloc, Faults::NONE)?;
-    let clock = &mut MonotonicClock::new(rt);
-    Ok(serve_at(rt, alloc, core, address, Some(1), clock).ending)
+    Ok(ending_by(rt, alloc, core, address))
 }
 
 /// Fails unless this is how it ends.
@@ -215,6 +238,35 @@ fn a_port_in_use_ends_as_streams(rt: HostRuntime) -> Result<(), Fail> {
     ends_beside(&rt, rt.alloc(), &listener, "Streams")
 }
 
+/// A service of a new database Net at this endpoint.
+fn service_at(alloc: Global, endpoint: Endpoint) -> Result<Service<Counter>, Fail> {
+    let schema = net(alloc)?;
+    let text = text_of(alloc, &schema)?;
+    Ok(Service {
+        schema,
+        text,
+        draws: Counter::new(),
+        endpoint,
+    })
+}
+
+/// How the sessions of a service in memory end.
+fn ending_in_memory<R, D, S, W, C>(
+    rt: &R,
+    alloc: Global,
+    service: Service<D>,
+    pipes: &mut Pipes<S, W, C>,
+) -> Ending
+where
+    R: Net<Listener = TcpListener, Stream = TcpStream> + Threads + Wait + Clock + Eprint + Sync,
+    D: Draws + Drop,
+    S: Source,
+    W: Sink,
+    C: MomentClock,
+{
+    DatabaseEnded::Memory(serve_memory(rt, alloc, service, pipes)).ending()
+}
+
 /// How sessions end at this endpoint, with a new in-memory database Net.
 fn ending_of<R, S, W, C>(
     rt: &R,
@@ -228,15 +280,8 @@ where
     W: Sink,
     C: MomentClock,
 {
-    let schema = net(alloc)?;
-    let text = text_of(alloc, &schema)?;
-    let service = Service {
-        schema,
-        text,
-        draws: Counter::new(),
-        endpoint,
-    };
-    Ok(DatabaseEnded::Memory(serve_memory(rt, alloc, service, pipes)).ending())
+    let service = service_at(alloc, endpoint)?;
+    Ok(ending_in_memory(rt, alloc, service, pipes))
 }
 
 /// How a session over streams ended, and what it wrote.
