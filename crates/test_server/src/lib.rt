@@ -27,6 +27,8 @@ mod old_files;
 #[cfg(test)]
 mod serve;
 #[cfg(test)]
+mod server;
+#[cfg(test)]
 mod stops;
 #[cfg(test)]
 mod streams;

@@ -1,11 +1,12 @@
 //! Scripts, conversations and messages that a test has made.
 
+use crate::server::converses;
 use ov_base::Bytes;
 use ov_rpc::Received;
 use std::alloc::{AllocError, Global};
 use std::test::Fail;
 use test_basics::is_text;
-use test_support::{calls, converses};
+use test_support::calls;
 
 /// A text that was made. Its error is converted here, so that callers need not prove that again.
 pub(crate) fn made(text: Result<String, AllocError>) -> Result<String, Fail> {

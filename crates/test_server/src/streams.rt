@@ -1,7 +1,7 @@
 use crate::made::{converses_as, tells_as};
+use crate::server::converses;
 use std::alloc::{AllocError, Global};
 use std::test::Fail;
-use test_support::converses;
 
 const LISTED: &str = r#">{"id":0,"method":"list_dbs","params":[]}
 <{"error":null,"id":0,"result":["Net"]}"#;

@@ -1,6 +1,6 @@
+use crate::server::{converses, converses_over};
 use std::test::Fail;
 use test_basics::Faults;
-use test_support::{converses, converses_over};
 
 /// A transaction without operations, an insert, and a select of all columns.
 const INSERTED: &str = r#">{"id":0,"method":"transact","params":["Net"]}
@@ -170,6 +170,15 @@ const WAITING: &str =
 >{"id":3,"method":"transact","params":["Net",{"op":"select","table":"Switch","where":[],"columns":["name"]}]}
 <{"error":null,"id":3,"result":[{"rows":[]}]}"#;
 
+/// A switch, its port, and the port that this one refers to.
+const PEER: &str =
+    r#">{"id":1,"method":"transact","params":["Net",{"op":"insert","table":"Switch","row":{"name":"s1","ports":["named-uuid","p"]}},{"op":"insert","table":"Port","uuid-name":"p","row":{"name":"p1","peer":["named-uuid","q"]}},{"op":"insert","table":"Port","uuid-name":"q","row":{"name":"p2"}}]}
+<{"error":null,"id":1,"result":[{"uuid":["uuid","00000000-0000-4000-8000-000000000002"]},{"uuid":["uuid","00000000-0000-4000-8000-000000000003"]},{"uuid":["uuid","00000000-0000-4000-8000-000000000004"]}]}
+>{"id":2,"method":"transact","params":["Net",{"op":"update","table":"Switch","where":[],"row":{"ports":["set",[]]}}]}
+<{"error":null,"id":2,"result":[{"count":1}]}
+>{"id":3,"method":"transact","params":["Net",{"op":"select","table":"Port","where":[],"columns":["name"]}]}
+<{"error":null,"id":3,"result":[{"rows":[]}]}"#;
+
 #[test]
 fn each_operation_is_performed(rt: HostRuntime) -> Result<(), Fail> {
     converses(rt.alloc(), OPERATIONS)
@@ -243,4 +252,9 @@ fn rows_are_selected_by_conditions(rt: HostRuntime) -> Result<(), Fail> {
 #[test]
 fn conditions_are_refused_in_order(rt: HostRuntime) -> Result<(), Fail> {
     converses(rt.alloc(), MISREAD)
+}
+
+#[test]
+fn a_port_that_nobody_refers_to_goes_with_its_peer(rt: HostRuntime) -> Result<(), Fail> {
+    converses(rt.alloc(), PEER)
 }

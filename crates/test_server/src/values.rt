@@ -1,7 +1,7 @@
 use crate::made::converses_as;
+use crate::server::converses;
 use std::test::Fail;
 use test_basics::NET;
-use test_support::converses;
 
 /// Sets are merged and in ascending order, a set of one is its atom, and identifiers are in lower case. The rows are deleted
 /// before the commit, since what they refer to does not exist.

@@ -28,7 +28,7 @@ pub(crate) fn parts_of(text: &str) -> (&str, &str) {
 }
 
 /// The text of a frame, or of several.
-pub(crate) fn text_of_frame(frame: Bytes) -> Result<String, Fail> {
+pub fn text_of_frame(frame: Bytes) -> Result<String, Fail> {
     Ok(String::from_utf8(frame.into_vec())?)
 }
 
@@ -49,7 +49,7 @@ pub(crate) fn push_number(alloc: Global, text: &mut String, number: u64) -> Resu
 }
 
 /// The text of a fact: `true` or `false`.
-pub(crate) fn fact_text(alloc: Global, is_so: bool) -> Result<String, Fail> {
+pub fn fact_text(alloc: Global, is_so: bool) -> Result<String, Fail> {
     Ok(format!(in alloc; "{is_so}")?)
 }
 

@@ -6,7 +6,7 @@ use crate::attempts::{Attempts, attempts_on};
 use std::alloc::Global;
 use std::test::Fail;
 use test_basics::{Counter, NET, Scripted, agrees, follows, is_text};
-use test_support::{Looked, converses, looks};
+use test_support::{Looked, looks};
 
 /// Fails unless the attempts of a script have the outcomes that it lists, on a new database of this schema, and the database
 /// reports the same references and indexes after them as when it is opened.
@@ -33,20 +33,6 @@ fn unreferenced_row_goes(rt: HostRuntime) -> Result<(), Fail> {
 }
 
 /// A switch, its port, and the port that this one refers to.
-const PEER: &str =
-    r#">{"id":1,"method":"transact","params":["Net",{"op":"insert","table":"Switch","row":{"name":"s1","ports":["named-uuid","p"]}},{"op":"insert","table":"Port","uuid-name":"p","row":{"name":"p1","peer":["named-uuid","q"]}},{"op":"insert","table":"Port","uuid-name":"q","row":{"name":"p2"}}]}
-<{"error":null,"id":1,"result":[{"uuid":["uuid","00000000-0000-4000-8000-000000000002"]},{"uuid":["uuid","00000000-0000-4000-8000-000000000003"]},{"uuid":["uuid","00000000-0000-4000-8000-000000000004"]}]}
->{"id":2,"method":"transact","params":["Net",{"op":"update","table":"Switch","where":[],"row":{"ports":["set",[]]}}]}
-<{"error":null,"id":2,"result":[{"count":1}]}
->{"id":3,"method":"transact","params":["Net",{"op":"select","table":"Port","where":[],"columns":["name"]}]}
-<{"error":null,"id":3,"result":[{"rows":[]}]}"#;
-
-#[test]
-fn a_port_that_nobody_refers_to_goes_with_its_peer(rt: HostRuntime) -> Result<(), Fail> {
-    converses(rt.alloc(), PEER)
-}
-
-/// The same attempts, without sessions.
 const PEER_ATTEMPTS: &str =
     r#"0 [{"op":"insert","table":"Switch","row":{"name":"s1","ports":["named-uuid","p"]}},{"op":"insert","table":"Port","uuid-name":"p","row":{"name":"p1","peer":["named-uuid","q"]}},{"op":"insert","table":"Port","uuid-name":"q","row":{"name":"p2"}}] -> kept [{"uuid":["uuid","00000000-0000-4000-8000-000000000002"]},{"uuid":["uuid","00000000-0000-4000-8000-000000000003"]},{"uuid":["uuid","00000000-0000-4000-8000-000000000004"]}] 3
 0 [{"op":"update","table":"Switch","where":[],"row":{"ports":["set",[]]}}] -> kept [{"count":1}] 3

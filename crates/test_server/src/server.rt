@@ -1,10 +1,9 @@
-use crate::machine::net_core;
-use crate::texts::{fact_text, number_text, text_of_frame};
 use ov_base::Bytes;
 use ov_streams::{StreamEvent, Streams};
 use std::alloc::{AllocError, Global};
 use std::test::Fail;
 use test_basics::{Counter, Faults, NetKeeper, Scripted, agrees};
+use test_support::{fact_text, net_core, number_text, text_of_frame};
 
 /// The streams of a server, driven by a conversation.
 ///
@@ -89,7 +88,11 @@ impl Scripted for Server {
 }
 
 /// Holds a conversation with session 1 of a new server over a new database Net, whose keeper fails as `faults` says.
-pub fn converses_over(alloc: Global, faults: Faults, conversation: &str) -> Result<(), Fail> {
+pub(crate) fn converses_over(
+    alloc: Global,
+    faults: Faults,
+    conversation: &str,
+) -> Result<(), Fail> {
     let mut server = Server {
         streams: Streams::new(alloc, net_core(alloc, faults)?),
     };
@@ -98,6 +101,6 @@ pub fn converses_over(alloc: Global, faults: Faults, conversation: &str) -> Resu
 }
 
 /// The same with a keeper that keeps everything.
-pub fn converses(alloc: Global, conversation: &str) -> Result<(), Fail> {
+pub(crate) fn converses(alloc: Global, conversation: &str) -> Result<(), Fail> {
     converses_over(alloc, Faults::NONE, conversation)
 }
