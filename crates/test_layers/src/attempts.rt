@@ -1,3 +1,4 @@
+use crate::owning::OwnsOne;
 use ov_base::Tree;
 use ov_db::{Db, Delta, StoreAnswer};
 use ov_keeper::Keeper;
@@ -9,7 +10,6 @@ use test_basics::{
     Counter, Faults, NetKeeper, Scripted, agrees, array_text, compact, net, new_keeper,
     schema_of_text, trees,
 };
-use test_support::OwnsOne;
 use uuid::Uuid;
 
 /// What follows a commit in tests: the replies that are made ready, and how many rows change.

@@ -3,10 +3,10 @@
 //! same references and indexes as one that is opened from its lines.
 
 use crate::attempts::{Attempts, attempts_on};
+use crate::looked::{Looked, looks};
 use std::alloc::Global;
 use std::test::Fail;
 use test_basics::{Counter, NET, Scripted, agrees, follows, is_text};
-use test_support::{Looked, looks};
 
 /// Fails unless the attempts of a script have the outcomes that it lists, on a new database of this schema, and the database
 /// reports the same references and indexes after them as when it is opened.

@@ -16,11 +16,17 @@ mod integrity;
 #[cfg(test)]
 mod locks;
 #[cfg(test)]
+mod looked;
+#[cfg(test)]
+mod lookups;
+#[cfg(test)]
 mod monitors;
 #[cfg(test)]
 mod operations;
 #[cfg(test)]
 mod outbox;
+#[cfg(test)]
+mod owning;
 #[cfg(test)]
 mod relations;
 #[cfg(test)]

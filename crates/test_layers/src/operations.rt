@@ -1,4 +1,5 @@
 use crate::attempts::wait_text;
+use crate::owning::OwnsOne;
 use ov_base::Trees;
 use ov_given::NamedRows;
 use ov_ops::{OpCtx, OpOutcome, run_op};
@@ -11,7 +12,6 @@ use serde_json::Value;
 use std::alloc::{AllocError, Global};
 use std::test::Fail;
 use test_basics::{Counter, Scripted, agrees, net, number, switch, trees};
-use test_support::OwnsOne;
 use uuid::Uuid;
 
 /// Operations on the rows of a database Net, as in a transaction of this age. The outcome is their results, followed by how

@@ -2,8 +2,8 @@ use ov_txn::Owns as OwnsLocks;
 
 /// A session that owns the lock of this name, and no other.
 #[derive(Clone, Copy)]
-pub struct OwnsOne {
-    pub lock: &'static str,
+pub(crate) struct OwnsOne {
+    pub(crate) lock: &'static str,
 }
 
 impl OwnsLocks for OwnsOne {

@@ -20,7 +20,7 @@ impl<K: Keeper> Ready<K> for Unprepared {
 }
 
 /// A database, the keys of all rows that it has or had, and the index keys at which they stand or stood.
-pub struct Looked {
+pub(crate) struct Looked {
     db: Db<NetKeeper>,
     draws: Counter,
     lookups: Lookups,
@@ -38,7 +38,7 @@ impl Drop for Looked {
 
 impl Looked {
     /// A new database of the schema in a text, with counted draws.
-    pub fn new(alloc: Global, schema: &str) -> Result<Looked, Fail> {
+    pub(crate) fn new(alloc: Global, schema: &str) -> Result<Looked, Fail> {
         let schema = schema_of_text(alloc, schema)?;
         let keeper = new_keeper(alloc, &schema, Faults::NONE)?;
         Ok(Looked {
@@ -66,7 +66,7 @@ impl Looked {
     }
 
     /// What the database reports for the keys, including those of the rows that it has now.
-    pub fn told(&mut self, alloc: Global) -> Result<String, Fail> {
+    pub(crate) fn told(&mut self, alloc: Global) -> Result<String, Fail> {
         self.lookups.add(alloc, self.db.schema(), self.db.rows())?;
         self.lookups.told(alloc, &self.db)
     }
@@ -84,7 +84,7 @@ impl Looked {
     }
 
     /// Attempts the transaction of a command. Fails unless both report the same afterwards.
-    pub fn look(&mut self, alloc: Global, command: &str) -> Result<(), Fail> {
+    pub(crate) fn look(&mut self, alloc: Global, command: &str) -> Result<(), Fail> {
         let (_age, operations) = command.split_once(" ").ok_or("no age")?;
         self.attempt(alloc, operations)?;
         let told = self.told(alloc)?;
@@ -94,7 +94,7 @@ impl Looked {
 
 /// Fails unless, after each attempt of a script, a new database of this schema reports the same references and indexes as
 /// when it is opened again.
-pub fn looks(alloc: Global, schema: &str, script: &str) -> Result<(), Fail> {
+pub(crate) fn looks(alloc: Global, schema: &str, script: &str) -> Result<(), Fail> {
     let mut looked = Looked::new(alloc, schema)?;
     for line in script.lines() {
         let (command, _answer) = line.split_once(" -> ").unwrap_or((line, ""));
