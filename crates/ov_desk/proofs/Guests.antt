@@ -24,7 +24,8 @@ use Rattle.ov_lanes.proofs.PlaceLaws.{none_some, some_after, goes_none}
 use Rattle.ov_lanes.proofs.Silence.{known_in_order}
 use Rattle.ov_lanes.proofs.Timing.{timed_append, timed_more, tells_more}
 use Rattle.ov_desk.specs.Ending.{EndsAs, EndsAfter, finish_for}
-use Rattle.ov_workers.specs.Accepting.{SameArrivals, arrived, HaveCome}
+use Rattle.ov_workers.specs.Accepting.{SameArrivals, arrived}
+use Rattle.ov_threads.specs.Handing.{HaveCome}
 use Rattle.ov_workers.specs.LinkStates.{LinkState}
 use Rattle.ov_desk.specs.Outcome.{Finish}
 use Rattle.ov_desk.specs.Guests.{IsGuest, ServesGuests, HasLeft, StayOrLeave, SameSession, HaveLeft, HasPlace, AreHosted, HostsOn, HostsBy}
@@ -32,7 +33,7 @@ use Rattle.ov_desk.specs.Lists.{AreAmong, EachFrom}
 use Rattle.ov_desk.specs.Seats.{HaveLink, WorkAt}
 use Rattle.ov_desk.specs.Serving.{IsTended}
 use Rattle.ov_desk.specs.declared.hall.Hall.{Hall}
-use Rattle.ov_workers.specs.declared.workers.Workers.{Workers}
+use Rattle.ov_threads.specs.declared.workers.Workers.{Workers}
 use Rattle.ov_desk.proofs.Endings.{outcome_as, link_ends}
 use Rattle.ov_desk.proofs.Giving.{arrivals_same, arrivals_along}
 use Rattle.ov_desk.proofs.Gone.{Gone, goes_from, gone_on}

@@ -21,7 +21,7 @@ use Rattle.ov_desk.specs.Guests.{HasPlace, TendsHall}
 use Rattle.ov_workers.specs.LinkStates.{LinkState}
 use Rattle.ov_desk.specs.Lists.{AreAmong, EachFrom}
 use Rattle.ov_desk.specs.Seats.{AreSeats, Seating, WorkAt}
-use Rattle.ov_workers.specs.declared.workers.Workers.{Workers}
+use Rattle.ov_threads.specs.declared.workers.Workers.{Workers}
 use Rattle.ov_desk.proofs.Guests.{leaves_none, leaves_along}
 use Rattle.ov_desk.specs.Admitting.{Admits}
 use Rattle.ov_desk.specs.declared.admit.Admitted.{Admitted}

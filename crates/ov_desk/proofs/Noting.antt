@@ -7,7 +7,7 @@ use Rattle.ov_lanes.specs.declared.lane.Lane.{Lane}
 use Rattle.ov_lanes.proofs.PlaceLaws.{some_after}
 use Rattle.ov_desk.specs.declared.hall.Hall.{Hall}
 use Rattle.ov_workers.specs.LinkStates.{LinkState}
-use Rattle.ov_workers.specs.declared.workers.Workers.{Workers}
+use Rattle.ov_threads.specs.declared.workers.Workers.{Workers}
 use Rattle.ov_desk.specs.Seats.{ArePlaces, AreSeats}
 use Rattle.ov_desk.specs.Guests.{StayOrLeave, TakesNote, TakesNotes, ServesNote, ServesEach, is_of_lobby, session_notes, notes_in}
 use Rattle.ov_desk.specs.Serving.{AreApart, TakesFor, KeepsPlaces, TakesNoted, IsTended}

@@ -10,8 +10,8 @@ use Rattle.ov_lanes.specs.Lanes.{SameLane, StaysAs, StayAs, IsNewLane, AreNewLan
 use Rattle.ov_lanes.specs.Pairs.{Threewise}
 use Rattle.ov_lanes.specs.declared.lane.Lane.{Lane}
 use Rattle.ov_workers.specs.declared.link.Link.{Link}
-use Rattle.ov_workers.specs.Handing.{kept_if}
-use Rattle.ov_workers.specs.declared.workers.Workers.{Workers}
+use Rattle.ov_threads.specs.Handing.{kept_if}
+use Rattle.ov_threads.specs.declared.workers.Workers.{Workers}
 use Rattle.ov_sessions.specs.declared.session.Session.{Session}
 use Rattle.ov_lanes.specs.Opening.{AreSessions}
 use Rattle.ov_desk.proofs.Pairs.{threes_more, threes_ended, threes_lengths}

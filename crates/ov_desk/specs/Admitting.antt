@@ -7,7 +7,7 @@ use Rattle.ov_lanes.specs.Lanes.{AreTaken}
 use Rattle.ov_lanes.specs.declared.desk.Desk.{Desk}
 use Rattle.ov_lanes.specs.declared.lane.Lane.{Lane}
 use Rattle.ov_workers.specs.declared.link.Link.{Link}
-use Rattle.ov_workers.specs.declared.workers.Workers.{Workers}
+use Rattle.ov_threads.specs.declared.workers.Workers.{Workers}
 use Rattle.ov_lanes.specs.declared.fault.ServeFault.TheVariants.{TooMany}
 use Rattle.ov_desk.specs.declared.admit.Admitted.{Admitted}
 use Rattle.ov_desk.specs.declared.admit.Admitted.TheVariants as answer

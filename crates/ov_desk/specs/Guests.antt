@@ -9,7 +9,7 @@ use Rattle.ov_lanes.specs.declared.lane.Lane.{Lane}
 use Rattle.ov_workers.specs.Accepting.{Gives, SameArrivals, arrived, may_come}
 use Rattle.ov_workers.specs.LinkStates.{LinkState}
 use Rattle.ov_workers.specs.declared.link.Link.{Link}
-use Rattle.ov_workers.specs.declared.workers.Workers.{Workers}
+use Rattle.ov_threads.specs.declared.workers.Workers.{Workers}
 use Rattle.ov_desk.specs.declared.hall.Hall.{Hall}
 use Rattle.ov_desk.specs.declared.link.End.{End}
 use Rattle.ov_desk.specs.Ending.{LinkEnds}

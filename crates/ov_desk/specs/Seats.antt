@@ -4,7 +4,7 @@ use Rattle.rtrb.specs.Ring.{sent, received, known_free, IsPair}
 use Rattle.ov_lanes.specs.declared.desk.Desk.{Desk}
 use Rattle.ov_lanes.specs.declared.lane.Lane.{Lane}
 use Rattle.ov_workers.specs.declared.link.Link.{Link}
-use Rattle.ov_workers.specs.declared.workers.Workers.{Workers}
+use Rattle.ov_threads.specs.declared.workers.Workers.{Workers}
 use Rattle.ov_desk.specs.declared.hall.Hall.{Hall}
 use Rattle.ov_desk.specs.declared.start.Started.{Started}
 

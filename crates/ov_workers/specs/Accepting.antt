@@ -1,5 +1,5 @@
 -- What the accepting worker brings: the links that its listener gave.
-use Rattle.std.specs.Prelude.{◌≡◌, ◌⊎◌, List, [], ◌∷◌, ◌++◌, Bool, false, not, Option, Some, None}
+use Rattle.std.specs.Prelude.{◌≡◌, List, [], ◌∷◌, Bool, false, not, Option, Some, None}
 use Rattle.rtrb.specs.Ring.{received, SameConsumer}
 use Rattle.ov_order.specs.declared.items.Brought.{Brought}
 use Rattle.ov_order.specs.declared.items.Brought.TheVariants.{Message, End}
@@ -18,20 +18,6 @@ abbrev pub Gives : {S W T : Type 0} → (S → W → LinkState) → (T → Link 
 Gives ends gives listener [] last = last ≡ listener
 Gives {T = T} ends gives listener (link ∷ links) last =
     (next : T) × gives listener link next × IsNewLink (ends link.reader link.writer) × Gives ends gives next links last
-
--- The worker was handed no listener, and brought nothing; or it brought what the listener gave that it was handed.
-abbrev pub BringsLinks : {S W T : Type 0} → (S → W → LinkState) → (T → Link S W → T → Type 0) → List (Option T) → List (Link S W) → Type 0
-BringsLinks {T = T} ends gives handed links =
-    ((handed ≡ None ∷ []) × (links ≡ []))
-    ⊎ ((listener : T) × (handed ≡ Some listener ∷ []) × (last : T) × Gives ends gives listener links last)
-
--- The listener gave links, and these are the first of them.
-pub record HaveCome {S W T : Type 0} (ends : S → W → LinkState) (gives : T → Link S W → T → Type 0) (listener : T) (come : List (Link S W)) : Type 0 where
-  pub links : List (Link S W)
-  pub last : T
-  pub gave : Gives ends gives listener links last
-  pub rest : List (Link S W)
-  pub first : come ++ rest ≡ links
 
 -- ---- the desk's side of the worker, if there is one
 

@@ -5,4 +5,3 @@ pub mod Reading
 pub mod Writing
 pub mod Bringing
 pub mod Inlet
-pub mod Handing

@@ -20,7 +20,7 @@ pub type Accepted<S, W> = Brought<Link<S, W>, ()>;
 ///
 /// A listener that gives no more is dropped at once: a client that connects while the open sessions are still served should
 /// be refused, not wait for an answer that never comes.
-pub(crate) fn accept_worker<R, L, G, S, W, T>(
+pub fn accept_worker<R, L, G, S, W, T>(
     common: Common<'_, R, L, G>,
     listener: T,
     ring: Producer<Accepted<S, W>>,

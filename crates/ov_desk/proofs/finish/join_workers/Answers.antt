@@ -1,7 +1,7 @@
 use Rattle.std.proofs.Common.{◌++◌, Bool, true, sym, ap, ◌∙◌, subst}
 use Rattle.rtrb.specs.Ring.{sent, received, known_items}
 use Rattle.ov_ends.specs.States.{source_of, sink_of}
-use Rattle.ov_workers.specs.Handing.{kept_if}
+use Rattle.ov_threads.specs.Handing.{kept_if}
 use Rattle.ov_lanes.specs.Fitting.{FitsCourse}
 use Rattle.ov_desk.proofs.Sides.{ends_for}
 use Rattle.ov_desk.proofs.Seats.{pair_outbound, pair_inbound}

@@ -1,7 +1,8 @@
 use Rattle.std.proofs.Common.{◌≡◌, Some, refl, sym, ap, subst, ◌∙◌, inr}
 use Rattle.rtrb.specs.Ring.{IsPair}
 use Rattle.ov_core.specs.Following.{with_clock}
-use Rattle.ov_workers.specs.Accepting.{HaveCome, arrived}
+use Rattle.ov_workers.specs.Accepting.{arrived}
+use Rattle.ov_threads.specs.Handing.{HaveCome}
 use Rattle.ov_workers.specs.LinkStates.{ends_of}
 use Rattle.ov_desk.specs.Guests.{ServesGuests}
 use Rattle.ov_desk.proofs.Giving.{arrivals_there, arrivals_pair}

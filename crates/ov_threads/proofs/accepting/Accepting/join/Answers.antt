@@ -2,8 +2,9 @@ use Rattle.std.proofs.Common.{◌++◌, sym, ap, ◌∙◌}
 use Rattle.rtrb.specs.Ring.{sent, received, known_items}
 use Rattle.ov_workers.specs.Accepting.{links_in}
 use Rattle.ov_workers.specs.LinkStates.{ends_of}
-use Rattle.ov_workers.proofs.Coming.{have_come, links_append}
-use Rattle.ov_workers.proofs.accepting.Accepting.join.Goals as goal
+use Rattle.ov_workers.proofs.Coming.{links_append}
+use Rattle.ov_threads.proofs.Coming.{have_come}
+use Rattle.ov_threads.proofs.accepting.Accepting.join.Goals as goal
 
 pub returns : goal.returns
 returns g c listener is =

@@ -1,5 +1,5 @@
 -- What a worker's thread did with what it was handed.
-use Rattle.std.specs.Prelude.{◌≡◌, List, [], ◌∷◌, Bool, true, false, Option, Some, None, not, MatchOption}
+use Rattle.std.specs.Prelude.{◌≡◌, ◌⊎◌, List, [], ◌∷◌, ◌++◌, Bool, true, false, Option, Some, None, not, MatchOption}
 use Rattle.std.specs.declared.alloc.Global.{Global}
 use Rattle.rtrb.specs.Ring.{sent, received, SameConsumer}
 use Rattle.rtrb.specs.declared.AnyItems.{AnyItems}
@@ -10,8 +10,11 @@ use Rattle.ov_workers.specs.Reading.{BringsItems}
 use Rattle.ov_workers.specs.Writing.{Writes}
 use Rattle.ov_workers.specs.Inlet.{SameInlet}
 use Rattle.ov_workers.specs.declared.inlet.Inlet.{Inlet}
-use Rattle.ov_workers.specs.declared.reading.ReadLeft.{ReadLeft}
-use Rattle.ov_workers.specs.declared.writing.WriteLeft.{WriteLeft}
+use Rattle.ov_workers.specs.declared.link.Link.{Link}
+use Rattle.ov_workers.specs.LinkStates.{LinkState}
+use Rattle.ov_workers.specs.Accepting.{Gives}
+use Rattle.ov_threads.specs.declared.reading.ReadLeft.{ReadLeft}
+use Rattle.ov_threads.specs.declared.writing.WriteLeft.{WriteLeft}
 
 -- an end of a link after the work: it is there if it is kept, and was dropped otherwise
 abbrev pub kept_if : {T : Type 0} → Bool → T → Option T
@@ -34,3 +37,17 @@ WritesLink sink keeps ring writer left = SameConsumer ring left.ring × Writes (
 -- The thread was handed nothing, and wrote nothing; or it was handed a writer, and wrote to it up to the end mark.
 abbrev pub WritesHanded : {W : Type 0} → (W → SinkState) → Bool → Consumer Sent Global AnyItems → List (Option W) → Option (WriteLeft W) → Type 0
 WritesHanded {W} sink keeps ring handed done = MatchOption done (handed ≡ None ∷ []) (λ left. (writer : W) × (handed ≡ Some writer ∷ []) × WritesLink sink keeps ring writer left)
+
+-- The worker was handed no listener, and brought nothing; or it brought what the listener gave that it was handed.
+abbrev pub BringsLinks : {S W T : Type 0} → (S → W → LinkState) → (T → Link S W → T → Type 0) → List (Option T) → List (Link S W) → Type 0
+BringsLinks {T = T} ends gives handed links =
+    ((handed ≡ None ∷ []) × (links ≡ []))
+    ⊎ ((listener : T) × (handed ≡ Some listener ∷ []) × (last : T) × Gives ends gives listener links last)
+
+-- The listener gave links, and these are the first of them.
+pub record HaveCome {S W T : Type 0} (ends : S → W → LinkState) (gives : T → Link S W → T → Type 0) (listener : T) (come : List (Link S W)) : Type 0 where
+  pub links : List (Link S W)
+  pub last : T
+  pub gave : Gives ends gives listener links last
+  pub rest : List (Link S W)
+  pub first : come ++ rest ≡ links

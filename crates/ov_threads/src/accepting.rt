@@ -1,16 +1,13 @@
 ghost use Rattle.std.specs.Prelude.{◌≡◌, ◌<◌, [], ◌∷◌, true, Some, IfSome};
 ghost use Rattle.rtrb.specs.Ring.{sent, known_free, received, IsPair, SameConsumer, SameProducer};
-ghost use Rattle.ov_workers.specs.Accepting.{BringsLinks, HaveCome, links_in};
+ghost use Rattle.ov_workers.specs.Accepting.{links_in};
 ghost use Rattle.ov_workers.specs.LinkStates.{ends_of};
+ghost use Rattle.ov_threads.specs.Handing.{BringsLinks, HaveCome};
 
-use crate::accept::{Accepted, accept_worker};
-use crate::arrivals::Arrivals;
-use crate::common::Common;
-use crate::gate::Gate;
 use crate::hand::{HandRing, take_handed};
-use crate::listen::Listen;
 use ov_ends::{Sink, Source};
 use ov_order::{Leave, Noter};
+use ov_workers::{Accepted, Arrivals, Common, Gate, Listen, accept_worker};
 use rtrb::{Consumer, Producer};
 use std::snapshot::Snapshot;
 use std::sync::Wait;
@@ -133,8 +130,8 @@ where
 
 impl<S: Source + Drop, W: Sink + Drop, T: Listen<S, W> + Drop> Accepting<S, W, T> {
     /// Hands the thread its listener, whose links it brings the desk. Asks for the leave of `begin(true)`.
-    pub fn hand<L: Ledger>(&mut self, _leave: &Leave<L>, listener: T)
-        requires begun { _leave.now ≡ true }
+    pub fn hand<L: Ledger>(&mut self, leave: &Leave<L>, listener: T)
+        requires begun { leave.now ≡ true }
         requires unhanded { sent self.old.hand ≡ [] }
         ensures handed { sent self.new.hand ≡ Some listener ∷ [] }
         ensures promise { self.new.handle.promise ≡ self.old.handle.promise }

@@ -1,16 +1,12 @@
 ghost use Rattle.std.specs.Prelude.{◌≡◌, ◌<◌, [], ◌∷◌, true, Some, IfSome};
 ghost use Rattle.rtrb.specs.Ring.{sent, known_free, received, IsPair, SameConsumer};
 ghost use Rattle.ov_ends.specs.States.{source_of};
-ghost use Rattle.ov_workers.specs.Handing.{ReadsLink, ReadsHanded};
+ghost use Rattle.ov_threads.specs.Handing.{ReadsLink, ReadsHanded};
 
-use crate::cause::ReadCause;
-use crate::common::Common;
-use crate::gate::Gate;
 use crate::hand::{HandRing, keep_or_drop, take_handed};
-use crate::inlet::Inlet;
-use crate::reader::{ReadEnd, read_worker};
 use ov_ends::Source;
 use ov_order::Leave;
+use ov_workers::{Common, Gate, Inlet, ReadCause, ReadEnd, read_worker};
 use rtrb::{Consumer, Producer};
 use std::snapshot::Snapshot;
 use std::sync::Wait;
@@ -167,8 +163,8 @@ where
 
 impl<S: Source + Drop, L: Ledger> Reading<S, L> {
     /// Hands the thread its reader, which it reads to the end. Asks for the leave of `begin(true)`.
-    pub fn hand(&mut self, _leave: &Leave<L>, reader: S)
-        requires begun { _leave.now ≡ true }
+    pub fn hand(&mut self, leave: &Leave<L>, reader: S)
+        requires begun { leave.now ≡ true }
         requires unhanded { sent self.old.hand ≡ [] }
         ensures handed { sent self.new.hand ≡ Some reader ∷ [] }
         ensures promise { self.new.handle.promise ≡ self.old.handle.promise }

@@ -1,14 +1,12 @@
 ghost use Rattle.std.specs.Prelude.{◌≡◌, ◌<◌, [], ◌∷◌, true, Some, IfSome};
 ghost use Rattle.rtrb.specs.Ring.{sent, known_free, received, IsPair, SameConsumer};
 ghost use Rattle.ov_ends.specs.States.{sink_of};
-ghost use Rattle.ov_workers.specs.Handing.{WritesLink, WritesHanded};
+ghost use Rattle.ov_threads.specs.Handing.{WritesLink, WritesHanded};
 
-use crate::common::Common;
-use crate::gate::Gate;
 use crate::hand::{HandRing, keep_or_drop, take_handed};
-use crate::writer::{WriteEnd, write_worker};
 use ov_ends::Sink;
 use ov_order::{Bell, Leave, Sent};
+use ov_workers::{Common, Gate, WriteEnd, write_worker};
 use rtrb::{Consumer, Producer};
 use std::snapshot::Snapshot;
 use std::sync::Wait;
@@ -172,8 +170,8 @@ where
 
 impl<W: Sink + Drop> Writing<W> {
     /// Hands the thread its writer, to which it writes up to the end mark. Asks for the leave of `begin(true)`.
-    pub fn hand<L: Ledger>(&mut self, _leave: &Leave<L>, writer: W)
-        requires begun { _leave.now ≡ true }
+    pub fn hand<L: Ledger>(&mut self, leave: &Leave<L>, writer: W)
+        requires begun { leave.now ≡ true }
         requires unhanded { sent self.old.hand ≡ [] }
         ensures handed { sent self.new.hand ≡ Some writer ∷ [] }
         ensures promise { self.new.handle.promise ≡ self.old.handle.promise }

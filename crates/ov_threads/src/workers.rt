@@ -1,16 +1,14 @@
 ghost use Rattle.std.specs.Prelude.{◌≡◌, [], ◌∷◌, true, Some, IfSome};
 ghost use Rattle.rtrb.specs.Ring.{sent, received};
 ghost use Rattle.ov_ends.specs.States.{source_of, sink_of};
-ghost use Rattle.ov_workers.specs.Handing.{ReadsLink, WritesLink};
+ghost use Rattle.ov_threads.specs.Handing.{ReadsLink, WritesLink};
 
-use crate::common::Common;
-use crate::gate::Gate;
 use crate::hand::Hands;
-use crate::inlet::Inlet;
 use crate::reading::{ReadLeft, Reading, start_reader};
 use crate::writing::{WriteLeft, Writing, start_writer};
 use ov_ends::{Sink, Source};
 use ov_order::{Bell, Leave, Sent};
+use ov_workers::{Common, Gate, Inlet};
 use rtrb::Consumer;
 use std::sync::Wait;
 use std::sync::ledger::Ledger;

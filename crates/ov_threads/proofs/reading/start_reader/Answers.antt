@@ -3,8 +3,9 @@ use Rattle.std.proofs.Crossing.{crosses}
 use Rattle.ov_order.proofs.order.Order.TheSendSync as order
 use Rattle.rtrb.proofs.consumer.Consumer.TheSendSync as consumer
 use Rattle.ov_workers.proofs.common.Common.TheSendSync as common
-use Rattle.ov_workers.proofs.Crossing.{Inlet-field-send, ReadDone-send}
-use Rattle.ov_workers.proofs.reading.start_reader.Goals as goal
+use Rattle.ov_workers.proofs.Crossing.{Inlet-field-send}
+use Rattle.ov_threads.proofs.Crossing.{ReadDone-send}
+use Rattle.ov_threads.proofs.reading.start_reader.Goals as goal
 
 pub spawn_with-requires-send-F : goal.spawn_with-requires-send-F
 spawn_with-requires-send-F g c = λ κs h.

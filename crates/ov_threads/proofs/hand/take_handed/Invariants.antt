@@ -1,6 +1,6 @@
 use Rattle.std.proofs.Common.{◌≡◌}
 use Rattle.rtrb.specs.Ring.{received, SameConsumer}
-use Rattle.ov_workers.proofs.hand.take_handed.Given as goal
+use Rattle.ov_threads.proofs.hand.take_handed.Given as goal
 
 -- Until something is handed, nothing was taken.
 abbrev pub invariant-loop : goal.invariant-loop

@@ -1,6 +1,6 @@
 ghost use Rattle.std.specs.Prelude.{◌≡◌, [], ◌∷◌, ◌++◌};
 ghost use Rattle.rtrb.specs.Ring.{sent, known_free, received, IsPair, SameConsumer};
-ghost use Rattle.ov_workers.specs.Handing.{kept_if};
+ghost use Rattle.ov_threads.specs.Handing.{kept_if};
 
 use ov_order::Leave;
 use rtrb::{Consumer, Producer, RingBuffer};
