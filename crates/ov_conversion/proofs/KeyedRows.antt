@@ -1,6 +1,6 @@
 -- What is asked of the rows of a database, key by key.
 use Rattle.std.proofs.Common.{◌≡◌, List, [], ◌∷◌, map, Bool, ◌||◌, ◌&&◌, not, Some, refl, sym, ◌∙◌}
-use Rattle.std.specs.FinMap.{get, entries, keys, contains_key, entries_sorted, get-entries}
+use Rattle.std.specs.FinMap.{get, entries, keys, contains_key}
 use Rattle.std.specs.List.{list_any}
 use Rattle.ov_specs.specs.integrity.Committed.{is_missing}
 use Rattle.ov_specs.specs.integrity.References.{Target, row_targets, row_references, references}
@@ -8,14 +8,12 @@ use Rattle.ov_specs.specs.rows.Database.{Row, Database}
 use Rattle.ov_specs.specs.rows.Lines.{LineKey}
 use Rattle.ov_specs.specs.schema.Schema.{is_some_and}
 use Rattle.ov_specs.specs.schema.SchemaTypes.{Schema}
-use Rattle.ov_specs.proofs.laws.FoundRows.{EachRow, each_found}
+use Rattle.ov_specs.proofs.laws.FoundRows.{EachRow}
 use Rattle.ov_specs.proofs.laws.Lists.{any-map, any-flat_map}
-use Rattle.ov_conversion.specs.Making.{at_key}
+use Rattle.ov_carried.proofs.Made.{each_row}
+use Rattle.ov_conversion.specs.Asking.{at_key}
 
--- ---- each row stands at its key
-
-pub each_row : (rows : Database) → EachRow (λ key row. get rows key ≡ Some row) (entries rows)
-each_row rows = each_found (λ key row. get rows key ≡ Some row) (entries rows) (entries_sorted rows) (λ key row found. get-entries rows key ∙ found)
+-- ---- each row is asked at its key
 
 any_each : (test : LineKey × Row → Bool) (rows : Database) (rs : List (LineKey × Row)) → EachRow (λ key row. get rows key ≡ Some row) rs
     → list_any (at_key test rows) (map (λ r. r.0) rs) ≡ list_any test rs

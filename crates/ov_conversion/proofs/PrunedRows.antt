@@ -19,9 +19,9 @@ use Rattle.ov_specs.proofs.laws.LineKeys.{key_total, key_exact}
 use Rattle.ov_specs.proofs.laws.Names.{name_cmp_total, name_exact, same_name, same_name-is, same_name-itself, find-first_not_later, sorted_rest}
 use Rattle.ov_specs.proofs.laws.Pruning.{get-pruned_columns, get-pruned}
 use Rattle.ov_specs.proofs.laws.PrunedValues.{is_sorted-filter}
-use Rattle.ov_conversion.specs.Making.{keyed}
+use Rattle.ov_carried.specs.Making.{keyed}
+use Rattle.ov_carried.proofs.Made.{get-with_made, with_values-made, is_among-keys}
 use Rattle.ov_conversion.specs.Pruning.{repaired, repaired_at}
-use Rattle.ov_conversion.proofs.Made.{get-with_made, with_values-made, is_among-keys}
 
 -- ---- pairs that remain of a map make a map again
 

@@ -34,8 +34,8 @@ use Rattle.ov_specs.proofs.laws.Pruning.{find-anew, find-none, pruned_columns_su
 use Rattle.ov_specs.proofs.laws.PutValues.{option_or-none}
 use Rattle.ov_specs.proofs.laws.SchemaLaws.{default_is_of}
 use Rattle.ov_specs.proofs.laws.Suiting.{version_suits}
-use Rattle.ov_conversion.specs.Carrying.{carried_at, carried_of}
-use Rattle.ov_conversion.proofs.Made.{get-with_made, is_among-keys, carried-made}
+use Rattle.ov_carried.specs.Carrying.{carried_at, carried_of}
+use Rattle.ov_carried.proofs.Made.{get-with_made, is_among-keys, carried-made}
 
 was_so : (b : Bool) → not b ≡ false → b ≡ true
 was_so true h = refl

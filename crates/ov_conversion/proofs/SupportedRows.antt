@@ -14,8 +14,8 @@ use Rattle.ov_specs.specs.schema.SchemaTypes.{Schema}
 use Rattle.ov_specs.proofs.laws.FoundRows.{EachRow}
 use Rattle.ov_specs.proofs.laws.LineKeys.{key_total, same_key-tied, tied_same, same_tied}
 use Rattle.ov_specs.proofs.laws.Truths.{or_nothing, was_not}
+use Rattle.ov_carried.proofs.Made.{each_row}
 use Rattle.ov_conversion.specs.Support.{Supports, is_of_other, references_of, references_at}
-use Rattle.ov_conversion.proofs.KeyedRows.{each_row}
 
 -- these targets, as references of the row of this key
 abbrev pub referred : LineKey → List Target → List RowReference

@@ -1,5 +1,4 @@
-pub mod Carrying
-pub mod Making
+pub mod Asking
 pub mod Support
 pub mod Pruning
 pub mod Committing

@@ -5,11 +5,11 @@ ghost use Rattle.ov_specs.specs.conversion.Converted.{has_changed_type};
 ghost use Rattle.ov_specs.specs.integrity.Committed.{is_whole};
 ghost use Rattle.ov_specs.specs.rows.Suits.{Suits};
 
-use crate::carried::carried;
 use crate::committed::committed;
 use crate::defaults::gets_unfit_default;
 use crate::fault::ConversionFault;
 use ov_atoms::has_sixteen_bytes;
+use ov_carried::carried_rows;
 use ov_rows::Rows;
 use ov_schema::Schema;
 use std::alloc::Global;
@@ -43,6 +43,6 @@ pub fn converted_rows(
     if gets_unfit_default(alloc, old, new, before)? {
         return Err(ConversionFault::NotConvertible);
     }
-    let rows = carried(alloc, old, new, version, before)?;
+    let rows = carried_rows(alloc, old, new, version, before)?;
     committed(alloc, new, before, version, rows)
 }

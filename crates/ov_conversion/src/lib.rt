@@ -3,12 +3,10 @@
 //! to them.
 #![tactic(auto)]
 
-mod carried;
 mod committed;
 mod converted;
 mod defaults;
 mod fault;
-mod keys;
 mod limits;
 mod missing;
 mod pruned;

@@ -1,12 +1,12 @@
 ghost use Rattle.std.specs.Prelude.{◌≡◌, ◌||◌, false, IfOk};
 ghost use Rattle.std.specs.FinMap.{entries};
 ghost use Rattle.std.specs.List.{list_any};
-ghost use Rattle.ov_conversion.specs.Making.{at_key};
+ghost use Rattle.ov_conversion.specs.Asking.{at_key};
 ghost use Rattle.ov_specs.specs.integrity.Limits as limits;
 ghost use Rattle.ov_specs.specs.rows.Suits.{Suits};
 
-use crate::keys::keys_of;
 use ov_atoms::Datum;
+use ov_carried::keys_of;
 use ov_index::{Indexes, is_over_limits};
 use ov_rows::{Columns, RowKey, Rows};
 use ov_schema::{Schema, Table};

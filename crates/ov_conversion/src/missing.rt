@@ -1,10 +1,10 @@
 ghost use Rattle.std.specs.Prelude.{◌≡◌, IfOk};
 ghost use Rattle.std.specs.List.{list_any};
-ghost use Rattle.ov_conversion.specs.Making.{at_key};
+ghost use Rattle.ov_conversion.specs.Asking.{at_key};
 ghost use Rattle.ov_specs.specs.integrity.Committed.{is_missing};
 ghost use Rattle.ov_specs.specs.integrity.References.{references, row_references};
 
-use crate::keys::keys_of;
+use ov_carried::keys_of;
 use ov_refs::targets_of;
 use ov_rows::{Row, RowKey, Rows};
 use ov_schema::Schema;

@@ -6,7 +6,7 @@ ghost use Rattle.ov_specs.specs.integrity.Kept.{is_in_root_table, kept, unsuppor
 ghost use Rattle.ov_specs.specs.integrity.References.{row_references};
 ghost use Rattle.ov_specs.specs.operations.MatchingRows.{without_rows};
 
-use crate::keys::keys_of;
+use ov_carried::keys_of;
 use ov_refs::{KeySet, Target, targets_of};
 use ov_rows::{Row, RowKey, Rows};
 use ov_schema::Schema;

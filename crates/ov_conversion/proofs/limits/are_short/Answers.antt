@@ -1,7 +1,7 @@
 use Rattle.std.proofs.Common.{ap, ◌∙◌}
 use Rattle.std.specs.List.{list_any}
 use Rattle.ov_specs.specs.integrity.Limits.{is_short}
-use Rattle.ov_conversion.specs.Making.{at_key}
+use Rattle.ov_conversion.specs.Asking.{at_key}
 use Rattle.ov_conversion.proofs.KeyedRows.{any_at_keys}
 use Rattle.ov_conversion.proofs.limits.are_short.Goals as goal
 

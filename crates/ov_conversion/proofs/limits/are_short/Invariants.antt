@@ -2,7 +2,7 @@ use Rattle.std.proofs.Common.{◌≡◌}
 use Rattle.std.specs.FinMap.{entries}
 use Rattle.std.specs.List.{list_any}
 use Rattle.ov_specs.specs.integrity.Limits.{is_short}
-use Rattle.ov_conversion.specs.Making.{at_key}
+use Rattle.ov_conversion.specs.Asking.{at_key}
 use Rattle.ov_conversion.proofs.limits.are_short.Given as goal
 
 abbrev pub invariant-loop-key : goal.invariant-loop-key

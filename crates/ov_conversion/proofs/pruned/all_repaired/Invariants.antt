@@ -1,6 +1,6 @@
 use Rattle.std.proofs.Common.{◌≡◌, ◌++◌}
 use Rattle.std.specs.List.{filter_map}
-use Rattle.ov_conversion.specs.Making.{keyed}
+use Rattle.ov_carried.specs.Making.{keyed}
 use Rattle.ov_conversion.specs.Pruning.{repaired_at}
 use Rattle.ov_conversion.proofs.pruned.all_repaired.Given as goal
 

@@ -4,8 +4,8 @@ use Rattle.std.proofs.lemmas.Result.{IfOk-weaker}
 use Rattle.ov_specs.specs.operations.GivenRow.{with_values}
 use Rattle.ov_specs.specs.conversion.Carried.{carried_value}
 use Rattle.ov_specs.specs.rows.RowNames.{without_own_columns}
-use Rattle.ov_conversion.proofs.Columns.{carried_columns-is}
-use Rattle.ov_conversion.proofs.carried.carried_columns.Goals as goal
+use Rattle.ov_carried.proofs.Columns.{carried_columns-is}
+use Rattle.ov_carried.proofs.carried.carried_columns.Goals as goal
 
 pub returns : goal.returns
 returns c =

@@ -21,8 +21,8 @@ fn push_keys(
     Ok(())
 }
 
-/// The keys of all rows, ascending.
-pub(crate) fn keys_of(alloc: Global, rows: &Rows) -> Result<Vec<RowKey>, AllocError>
+/// The keys of all rows, ascending. Refused only if an allocation fails.
+pub fn keys_of(alloc: Global, rows: &Rows) -> Result<Vec<RowKey>, AllocError>
     ensures { IfOk result (λ found. found.items ≡ keys rows.now) }
 {
     let mut found = Vec::new(alloc);

@@ -1,6 +1,6 @@
 -- Rows that are made of the keys of others.
 use Rattle.std.proofs.Common.{◌≡◌, List, [], ◌∷◌, map, Bool, true, false, cond, ◌||◌, Option, Some, None, is_some, option_map, option_and_then, refl, sym, ap, ◌∙◌}
-use Rattle.std.specs.FinMap.{empty, get, insert, entries, keys, find, from_entries, get-empty, get-entries, get-insert, same_map}
+use Rattle.std.specs.FinMap.{empty, get, insert, entries, keys, find, from_entries, entries_sorted, get-empty, get-entries, get-insert, same_map}
 use Rattle.std.specs.List.{filter_map, cons_option, list_any}
 use Rattle.std.specs.Option.{option_or}
 use Rattle.std.specs.Ordering.{eq_by_cmp}
@@ -10,11 +10,14 @@ use Rattle.ov_specs.specs.rows.Database.{Row, Database}
 use Rattle.ov_specs.specs.rows.Lines.{LineKey, line_cmp}
 use Rattle.ov_specs.specs.schema.SchemaTypes.{Table, Schema}
 use Rattle.ov_specs.specs.values.Uuid.{Uuid}
-use Rattle.ov_specs.proofs.laws.FoundRows.{EachRow}
+use Rattle.ov_specs.proofs.laws.FoundRows.{EachRow, each_found}
 use Rattle.ov_specs.proofs.laws.LineKeys.{key_total, key_exact, tied_same}
-use Rattle.ov_conversion.specs.Making.{with_row, keyed}
-use Rattle.ov_conversion.specs.Carrying.{carried_at, carried_of}
-use Rattle.ov_conversion.proofs.KeyedRows.{each_row}
+use Rattle.ov_carried.specs.Making.{with_row, keyed}
+use Rattle.ov_carried.specs.Carrying.{carried_at, carried_of}
+
+-- each row stands at its key
+pub each_row : (rows : Database) → EachRow (λ key row. get rows key ≡ Some row) (entries rows)
+each_row rows = each_found (λ key row. get rows key ≡ Some row) (entries rows) (entries_sorted rows) (λ key row found. get-entries rows key ∙ found)
 
 -- with what is made of each of these keys
 abbrev pub with_made : (LineKey → Option Row) → List LineKey → Database → Database

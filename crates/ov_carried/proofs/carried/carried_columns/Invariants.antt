@@ -2,7 +2,7 @@ use Rattle.std.proofs.Common.{◌≡◌, drop, map}
 use Rattle.ov_specs.specs.operations.GivenRow.{with_values}
 use Rattle.ov_specs.specs.conversion.Carried.{carried_value}
 use Rattle.ov_specs.specs.rows.RowNames.{without_own_columns}
-use Rattle.ov_conversion.proofs.carried.carried_columns.Given as goal
+use Rattle.ov_carried.proofs.carried.carried_columns.Given as goal
 
 abbrev pub invariant-loop-name : goal.invariant-loop-name
 invariant-loop-name l =

@@ -1,6 +1,6 @@
 use Rattle.std.proofs.Common.{◌≡◌, ◌++◌, map}
 use Rattle.ov_rows.specs.Nested.{in_table}
-use Rattle.ov_conversion.proofs.keys.push_keys.Given as goal
+use Rattle.ov_carried.proofs.keys.push_keys.Given as goal
 
 abbrev pub invariant-loop-id : goal.invariant-loop-id
 invariant-loop-id l =

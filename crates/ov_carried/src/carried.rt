@@ -1,6 +1,6 @@
 ghost use Rattle.std.specs.Prelude.{◌≡◌, IfOk, OnOk};
-ghost use Rattle.ov_conversion.specs.Making.{with_row};
-ghost use Rattle.ov_conversion.specs.Carrying.{carried_at, carried_of};
+ghost use Rattle.ov_carried.specs.Making.{with_row};
+ghost use Rattle.ov_carried.specs.Carrying.{carried_at, carried_of};
 ghost use Rattle.ov_specs.specs.conversion.Carried as spec;
 ghost use Rattle.ov_specs.specs.rows.Version.{row_now};
 
@@ -50,9 +50,9 @@ fn carried_columns(
     Columns::sharing(alloc, new.row_shape(), named)
 }
 
-/// The row of this key with these columns: it keeps its version if its columns are the same as before, else it gets this one
-/// (RFC 7047, 3.2).
-pub(crate) fn row_now(before: &Rows, version: Uuid, key: &RowKey, columns: Columns) -> Row
+/// The row of this key with these columns: it has the version of the row before if there was one with the same columns, else
+/// this one (RFC 7047, 3.2). Allocates nothing; the rows before are unchanged.
+pub fn row_now(before: &Rows, version: Uuid, key: &RowKey, columns: Columns) -> Row
     ensures { result ≡ row_now before.now version key.now columns }
 {
     match before.row(key.table(), key.id()) {
@@ -109,9 +109,12 @@ fn carry(
     }
 }
 
-/// The rows of the tables that both schemas have, as rows of the new schema. Rows that get or lose a column get this version,
-/// others keep theirs.
-pub(crate) fn carried(
+/// The rows of the tables that both schemas have, as rows of the new schema: each column of both tables keeps its value, a new
+/// column gets its default (RFC 7047, 5.2.1), and other columns are dropped. Rows that get or lose a column get this version,
+/// others keep theirs. Whether the values fit their columns is not looked at.
+///
+/// Goes once over all rows, which are unchanged. Refused only if an allocation fails.
+pub fn carried_rows(
     alloc: Global,
     old: &Schema,
     new: &Schema,

@@ -1,7 +1,7 @@
 use Rattle.std.proofs.Common.{◌∙◌}
-use Rattle.ov_conversion.specs.Carrying.{carried_of}
-use Rattle.ov_conversion.proofs.Made.{with_made, carried-made}
-use Rattle.ov_conversion.proofs.carried.carried.Goals as goal
+use Rattle.ov_carried.specs.Carrying.{carried_of}
+use Rattle.ov_carried.proofs.Made.{with_made, carried-made}
+use Rattle.ov_carried.proofs.carried.carried_rows.Goals as goal
 
 pub loop-key-init : goal.loop-key-init
 loop-key-init c =
