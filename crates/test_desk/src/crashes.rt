@@ -1,7 +1,7 @@
 //! Clients of a desk whose database is in two files, one of which stops, and what is found when both are opened again.
 
 use crate::clients::{ClientWriter, client_of, lines_of, links_of};
-use crate::desks::RisingClock;
+use crate::clocks::RisingClock;
 use crate::holding::{HoldingGate, NO_HOLDS};
 use ov_base::Text;
 use ov_core::Core;

@@ -1,35 +1,20 @@
 use crate::clients::{Client, ClientWriter, lines_of, links_of};
+use crate::clocks::RisingClock;
 use crate::holding::{HoldingGate, Holds};
 use ov_desk::{Served, Unserved, serve_links};
-use ov_ends::{Clock, Source};
+use ov_ends::Source;
 use ov_keeper::Keeper;
 use ov_lanes::{Desk, ServeFault};
 use ov_requests::Draws;
 use ov_workers::{Gate, Link};
 use std::alloc::{AllocError, Global};
 use std::collections::VecDeque;
-use std::rt::Clock as SystemClock;
+use std::rt::Clock;
 use std::sync::Wait;
 use std::test::Fail;
 use std::thread::Threads;
 use test_basics::{Faults, is_text};
 use test_support::net_core;
-
-/// A clock that returns a later moment at each call.
-#[derive(Drop)]
-pub(crate) struct RisingClock {
-    /// The last moment that it returned.
-    pub moment: u64,
-}
-
-impl Clock for RisingClock {
-    ghost tells = { λ _ _ _. Unit {0} };
-
-    fn now(&mut self) -> u64 {
-        self.moment = self.moment.saturating_add(1);
-        self.moment
-    }
-}
 
 /// Serves links through a gate, by a clock that rises.
 pub(crate) fn serve<R, K, D, S, G>(
@@ -40,7 +25,7 @@ pub(crate) fn serve<R, K, D, S, G>(
     gate: &G,
 ) -> Result<Served<K, D, S, ClientWriter>, Unserved<K, D, S, ClientWriter>>
 where
-    R: Threads + Wait + SystemClock + Sync,
+    R: Threads + Wait + Clock + Sync,
     K: Keeper + Drop,
     D: Draws + Drop,
     S: Source + Send + Drop,
@@ -77,7 +62,7 @@ fn lines_at<R, K, D, S>(
     gate: &HoldingGate<'_, R>,
 ) -> Result<String, AllocError>
 where
-    R: Threads + Wait + SystemClock + Sync,
+    R: Threads + Wait + Clock + Sync,
     K: Keeper + Drop,
     D: Draws + Drop,
     S: Source + Send + Drop,
@@ -97,7 +82,7 @@ pub(crate) fn converse_at<R, K, D>(
     gate: &HoldingGate<'_, R>,
 ) -> Result<String, AllocError>
 where
-    R: Threads + Wait + SystemClock + Sync,
+    R: Threads + Wait + Clock + Sync,
     K: Keeper + Drop,
     D: Draws + Drop,
 {
@@ -106,7 +91,7 @@ where
 }
 
 /// The outcome of clients at a new desk, through their gate.
-fn converse_after<R: Threads + Wait + SystemClock + Sync>(
+fn converse_after<R: Threads + Wait + Clock + Sync>(
     rt: &R,
     alloc: Global,
     clients: &[Client<'_>],
@@ -117,7 +102,7 @@ fn converse_after<R: Threads + Wait + SystemClock + Sync>(
 }
 
 /// The outcome of clients at a new desk whose workers are held up so.
-pub(crate) fn converse<R: Threads + Wait + SystemClock + Sync>(
+pub(crate) fn converse<R: Threads + Wait + Clock + Sync>(
     rt: &R,
     alloc: Global,
     holds: Holds,
@@ -128,7 +113,7 @@ pub(crate) fn converse<R: Threads + Wait + SystemClock + Sync>(
 }
 
 /// Fails unless this is the outcome of clients at a new desk.
-pub(crate) fn conversed<R: Threads + Wait + SystemClock + Sync>(
+pub(crate) fn conversed<R: Threads + Wait + Clock + Sync>(
     rt: &R,
     alloc: Global,
     holds: Holds,

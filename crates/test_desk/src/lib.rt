@@ -1,9 +1,15 @@
-//! Tests of what crosses threads: the order of notes, the rings between workers and the desk, the workers, and the desk with
-//! its clients.
+//! Tests of what crosses threads, and of what comes over sockets: the order of notes, the rings between workers and the desk,
+//! the workers, the desk with its clients, and a listener with sessions and a lobby over the loopback interface.
 #![tactic(auto)]
 
 #[cfg(test)]
+mod addresses;
+#[cfg(test)]
 mod clients;
+#[cfg(test)]
+mod clocks;
+#[cfg(test)]
+mod connections;
 #[cfg(test)]
 mod conversations;
 #[cfg(test)]
@@ -23,10 +29,16 @@ mod orders;
 #[cfg(test)]
 mod readers;
 #[cfg(test)]
+mod sessions;
+#[cfg(test)]
+mod talks;
+#[cfg(test)]
 mod threads;
 #[cfg(test)]
 mod told;
 #[cfg(test)]
 mod turns;
+#[cfg(test)]
+mod visits;
 #[cfg(test)]
 mod writers;

@@ -1,6 +1,6 @@
 //! A lobby and its clients, which come when their listener gives them, with what each of them was written.
 
-use crate::desks::RisingClock;
+use crate::clocks::RisingClock;
 use crate::told::{push, tells};
 use ov_desk::serve_lobby;
 use ov_ends::Watched;

@@ -1,8 +1,9 @@
 //! A lobby over the loopback interface: for two clients at a time, and for many that come one after another.
 
-use crate::sessions::{client_of, meets_end, talk};
+use crate::clocks::RisingClock;
+use crate::talks::{client_at, meets_end, talk};
 use ov_desk::serve_lobby;
-use ov_ends::{Clock, Watched};
+use ov_ends::Watched;
 use ov_keeper::Keeper;
 use ov_lanes::Desk;
 use ov_requests::Draws;
@@ -11,26 +12,13 @@ use ov_workers::{FreeGate, Link, Listen};
 use std::alloc::Global;
 use std::fs::{Files, read_dir, read_to_string};
 use std::net::{Net, Shutdown, TcpListener, TcpStream};
-use std::rt::Clock as SystemClock;
+use std::rt::Clock;
 use std::sync::Wait;
 use std::test::Fail;
 use std::thread;
 use std::thread::Threads;
-use std::time::Duration;
 use test_basics::{Faults, is_text};
 use test_support::net_core;
-
-/// A clock that stands still.
-#[derive(Drop)]
-struct StillClock;
-
-impl Clock for StillClock {
-    ghost tells = { λ _ _ _. Unit {0} };
-
-    fn now(&mut self) -> u64 {
-        0
-    }
-}
 
 /// The first connections of a listener, and no others.
 #[derive(Drop)]
@@ -54,20 +42,21 @@ impl Listen<Watched<TcpStream>, Watched<TcpStream>> for Few<'_> {
 }
 
 /// Serves connections in a lobby, and returns how many entries the history then has. None if the lobby is refused.
-fn serve_few<R: Threads + Wait + SystemClock + Sync, K: Keeper + Drop, D: Draws + Drop>(
+fn serve_few<R: Threads + Wait + Clock + Sync, K: Keeper + Drop, D: Draws + Drop>(
     rt: &R,
     alloc: Global,
     desk: Desk<K, D>,
     few: Few<'_>,
 ) -> Option<usize> {
-    match serve_lobby(rt, alloc, desk, few, &FreeGate, &mut StillClock) {
+    let clock = &mut RisingClock { moment: 0 };
+    match serve_lobby(rt, alloc, desk, few, &FreeGate, clock) {
         Ok(desk) => Some(desk.core().history().len()),
         Err(_refused) => None,
     }
 }
 
 /// The same with the first connections of a listener, over a new in-memory database Net.
-fn serve_first<R: Threads + Wait + SystemClock + Sync>(
+fn serve_first<R: Threads + Wait + Clock + Sync>(
     rt: &R,
     alloc: Global,
     listener: &TcpListener,
@@ -108,7 +97,7 @@ fn is_served(
 }
 
 /// The same with clients that talk while they are served.
-fn are_served<R: Threads + Wait + SystemClock + Sync>(
+fn are_served<R: Threads + Wait + Clock + Sync>(
     rt: &R,
     alloc: Global,
     listener: &TcpListener,
@@ -126,10 +115,10 @@ fn are_served<R: Threads + Wait + SystemClock + Sync>(
 /// The same with new clients.
 fn two_are_served<R>(rt: &R, alloc: Global, listener: &TcpListener) -> Result<(), Fail>
 where
-    R: Net<Listener = TcpListener, Stream = TcpStream> + Threads + Wait + SystemClock + Sync,
+    R: Net<Listener = TcpListener, Stream = TcpStream> + Threads + Wait + Clock + Sync,
 {
-    let first = client_of(rt, listener)?;
-    let second = client_of(rt, listener)?;
+    let first = client_at(rt, listener)?;
+    let second = client_at(rt, listener)?;
     are_served(rt, alloc, listener, &first, &second)
 }
 
@@ -192,9 +181,6 @@ fn growth(before: usize, after: usize, slack: usize) -> usize {
     after.saturating_sub(before.saturating_add(slack))
 }
 
-/// How many seconds a client waits for its echo.
-const PATIENCE: u64 = 20;
-
 /// An echo.
 const ECHO: &str = r#"1 sends {"id":1,"method":"echo","params":["x"]}
 1 reads {"error":null,"id":1,"result":["x"]}"#;
@@ -204,10 +190,7 @@ fn visit<R>(rt: &R, alloc: Global, listener: &TcpListener) -> Option<()>
 where
     R: Net<Listener = TcpListener, Stream = TcpStream>,
 {
-    let client = TcpStream::connect(rt, listener.local_addr().ok()?).ok()?;
-    client
-        .set_read_timeout(Some(Duration::from_secs(PATIENCE)))
-        .ok()?;
+    let client = client_at(rt, listener).ok()?;
     talk(alloc, &client, &client, ECHO)
 }
 
@@ -268,7 +251,7 @@ where
     R: Net<Listener = TcpListener, Stream = TcpStream>
         + Threads
         + Wait
-        + SystemClock
+        + Clock
         + Files
         + Alloc
         + Clone

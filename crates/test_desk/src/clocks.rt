@@ -5,6 +5,22 @@ use std::thread;
 use std::time::Duration;
 use test_basics::holds;
 
+/// A clock that returns a later moment at each call.
+#[derive(Drop)]
+pub(crate) struct RisingClock {
+    /// The last moment that it returned.
+    pub moment: u64,
+}
+
+impl Clock for RisingClock {
+    ghost tells = { λ _ _ _. Unit {0} };
+
+    fn now(&mut self) -> u64 {
+        self.moment = self.moment.saturating_add(1);
+        self.moment
+    }
+}
+
 #[test]
 fn the_clock_counts_milliseconds(rt: HostRuntime) -> Result<(), Fail> {
     let mut clock = MonotonicClock::new(&rt);

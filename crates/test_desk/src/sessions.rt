@@ -1,6 +1,7 @@
-//! Clients over the loopback interface, whose sessions are served together.
+//! Sessions of clients over the loopback interface that are served together, at an address, and over pipes.
 
 use crate::addresses::address_of;
+use crate::talks::{client_at, talk};
 use ov_base::Text;
 use ov_core::Core;
 use ov_desk::End;
@@ -17,19 +18,14 @@ use ov_words::Ending;
 use ov_workers::Link;
 use std::alloc::Global;
 use std::collections::VecDeque;
-use std::io::{Read, Write};
 use std::net::{Net, Shutdown, TcpListener, TcpStream};
 use std::rt::Clock;
 use std::sync::Wait;
 use std::test::Fail;
 use std::thread;
 use std::thread::Threads;
-use std::time::Duration;
 use test_basics::{Counter, Faults, holds, is_text, net};
 use test_support::net_core;
-
-/// How many seconds a client waits for what it is sent.
-const PATIENCE: u64 = 20;
 
 /// The first client owns a lock, and gives it up after the second was told to wait. The second is then notified that it owns
 /// the lock.
@@ -41,57 +37,8 @@ const GIVEN_ON: &str = r#"1 sends {"id":1,"method":"lock","params":["L"]}
 1 reads {"error":null,"id":2,"result":{}}
 2 reads {"id":null,"method":"locked","params":["L"]}"#;
 
-/// Reads as many bytes as `wanted` has. None if they differ.
-fn reads(alloc: Global, client: &TcpStream, wanted: &str) -> Option<()> {
-    let mut reader = client;
-    let mut got = Vec::new(alloc);
-    got.resize(wanted.len(), 0).ok()?;
-    reader.read_exact(got.as_mut_slice()).ok()?;
-    if got.as_slice() == wanted.as_bytes() {
-        Some(())
-    } else {
-        None
-    }
-}
-
-/// Meets the end of what the client is sent. None if there is more, or no end for a while.
-pub(crate) fn meets_end(client: &TcpStream) -> Option<()> {
-    let mut reader = client;
-    match reader.read(&mut [0; 1]) {
-        Ok(0) => Some(()),
-        _ => None,
-    }
-}
-
-/// Follows a line of a script: who sends or reads, and what, or who meets the end.
-fn follow(alloc: Global, first: &TcpStream, second: &TcpStream, line: &str) -> Option<()> {
-    let (who, what) = line.split_once(" ")?;
-    let client = if who == "1" { first } else { second };
-    match what.split_once(" ")? {
-        ("sends", text) => {
-            let mut writer = client;
-            writer.write_all(text.as_bytes()).ok()
-        }
-        ("reads", text) => reads(alloc, client, text),
-        ("meets", _the_end) => meets_end(client),
-        _ => None,
-    }
-}
-
-/// Follows a script, line by line. None if something else is read, or nothing for a while.
-pub(crate) fn talk(
-    alloc: Global,
-    first: &TcpStream,
-    second: &TcpStream,
-    script: &str,
-) -> Option<()> {
-    for line in script.lines() {
-        follow(alloc, first, second, line)?;
-    }
-    Some(())
-}
-
-/// The same, and then ends both inputs, however the talk went, because serving waits for that.
+/// Follows a script, and then ends both inputs, however the talk went, because serving waits for that. False if something
+/// else is read.
 fn talk_to_end(alloc: Global, first: &TcpStream, second: &TcpStream, script: &str) -> bool {
     let talked = talk(alloc, first, second, script).is_some();
     let ended = first.shutdown(Shutdown::Write).is_ok();
@@ -134,16 +81,6 @@ fn served<R: Threads + Wait + Clock + Sync>(
     served_by(rt, alloc, core, links)
 }
 
-/// A client that waits for a while.
-pub(crate) fn client_of<R: Net<Listener = TcpListener, Stream = TcpStream>>(
-    rt: &R,
-    listener: &TcpListener,
-) -> Result<TcpStream, Fail> {
-    let client = TcpStream::connect(rt, listener.local_addr()?)?;
-    client.set_read_timeout(Some(Duration::from_secs(PATIENCE)))?;
-    Ok(client)
-}
-
 /// Fails unless this is how sessions end.
 fn is_ending(alloc: Global, ending: Ending, wanted: &str) -> Result<(), Fail> {
     let told = format!(in alloc; "{ending:?}")?;
@@ -179,8 +116,8 @@ fn two_share_a_lock<R>(rt: &R, alloc: Global, listener: &TcpListener) -> Result<
 where
     R: Net<Listener = TcpListener, Stream = TcpStream> + Threads + Wait + Clock + Sync,
 {
-    let first = client_of(rt, listener)?;
-    let second = client_of(rt, listener)?;
+    let first = client_at(rt, listener)?;
+    let second = client_at(rt, listener)?;
     share_a_lock(rt, alloc, listener, &first, &second)
 }
 

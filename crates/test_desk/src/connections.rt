@@ -1,13 +1,12 @@
-use crate::sessions::client_of;
+use crate::talks::{client_at, talk};
 use ov_ends::{Sink, Source};
 use ov_sockets::{ClientReader, ClientWriter, accept_all, listen};
 use ov_workers::Link;
 use std::alloc::Global;
 use std::collections::VecDeque;
-use std::io::{Read, Write};
 use std::net::{Net, Shutdown, TcpListener, TcpStream};
 use std::test::Fail;
-use test_basics::{holds, is_text};
+use test_basics::is_text;
 
 /// Reads up to 16 bytes, sends them back, and returns how many.
 fn echo(link: &mut Link<ClientReader, ClientWriter>) -> Option<usize> {
@@ -47,19 +46,9 @@ fn echoes(
     is_text(alloc, told.as_str(), wanted)
 }
 
-/// Fails unless the client sends all of a text.
-fn sends(alloc: Global, client: &TcpStream, text: &str) -> Result<(), Fail> {
-    let mut writer = client;
-    let n = writer.write(text.as_bytes())?;
-    holds(alloc, n == text.len(), "all of it is sent")
-}
-
-/// Fails unless the client reads this text, of up to 16 bytes.
-fn reads(alloc: Global, client: &TcpStream, wanted: &str) -> Result<(), Fail> {
-    let mut reader = client;
-    let mut piece = [0; 16];
-    let n = reader.read(&mut piece)?;
-    is_text(alloc, str::from_utf8(&piece[..n])?, wanted)
+/// Fails unless both clients can follow a script.
+fn follows(alloc: Global, first: &TcpStream, second: &TcpStream, script: &str) -> Result<(), Fail> {
+    Ok(talk(alloc, first, second, script).ok_or("another talk")?)
 }
 
 /// Both clients are answered, and the second goes on after the first has ended.
@@ -69,15 +58,13 @@ fn are_answered(
     first: &TcpStream,
     second: &TcpStream,
 ) -> Result<(), Fail> {
-    sends(alloc, first, "[1]")?;
-    sends(alloc, second, "[22]")?;
+    follows(alloc, first, second, "1 sends [1]\n2 sends [22]")?;
     echoes(alloc, links, "[3, 4]")?;
-    reads(alloc, first, "[1]")?;
-    reads(alloc, second, "[22]")?;
+    follows(alloc, first, second, "1 reads [1]\n2 reads [22]")?;
     first.shutdown(Shutdown::Write)?;
-    sends(alloc, second, "{}")?;
+    follows(alloc, first, second, "2 sends {}")?;
     echoes(alloc, links, "[0, 2]")?;
-    reads(alloc, second, "{}")
+    follows(alloc, first, second, "2 reads {}")
 }
 
 /// The same with new connections, until they are dropped.
@@ -99,8 +86,7 @@ fn meet_their_ends(
     second: &TcpStream,
 ) -> Result<(), Fail> {
     are_accepted(alloc, listener, first, second)?;
-    reads(alloc, first, "")?;
-    reads(alloc, second, "")
+    follows(alloc, first, second, "1 meets end\n2 meets end")
 }
 
 /// The same with new clients.
@@ -109,8 +95,8 @@ fn two_meet_their_ends<R: Net<Listener = TcpListener, Stream = TcpStream>>(
     alloc: Global,
     listener: &TcpListener,
 ) -> Result<(), Fail> {
-    let first = client_of(rt, listener)?;
-    let second = client_of(rt, listener)?;
+    let first = client_at(rt, listener)?;
+    let second = client_at(rt, listener)?;
     meet_their_ends(alloc, listener, &first, &second)
 }
 
