@@ -81,10 +81,7 @@ impl<R: Clock> Read for ScriptedReader<'_, '_, '_, R> {
         if self.line.is_empty() {
             self.go_on()?;
         }
-        let n = self.line.len().min(buf.len());
-        buf[..n].copy_from_slice(&self.line[..n]);
-        self.line = &self.line[n..];
-        Ok(n)
+        self.line.read(buf)
     }
 }
 

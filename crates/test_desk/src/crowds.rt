@@ -3,6 +3,7 @@
 use crate::clients::{Client, ClientWriter, client_of, lines_of, links_of};
 use crate::desks::{converse_at, refusal, serve};
 use crate::holding::{HoldingGate, NO_HOLDS};
+use crate::machines::net_desk;
 use crate::told::{push, tells};
 use ov_core::{Entry, Event};
 use ov_desk::{End, Served};
@@ -17,8 +18,6 @@ use std::rt::Clock;
 use std::sync::Wait;
 use std::test::Fail;
 use std::thread::Threads;
-use test_basics::Faults;
-use test_support::net_core;
 
 /// The number of clients.
 const CLIENTS: u64 = 64;
@@ -225,8 +224,7 @@ fn are_served_at<R: Threads + Wait + Clock + Sync>(
     gate: &HoldingGate<'_, R>,
 ) -> Result<(), Fail> {
     let links = links_of(alloc, gate, clients)?;
-    let core = net_core(alloc, Faults::NONE)?;
-    counts_after(rt, alloc, Desk::new(alloc, core), links, gate)
+    counts_after(rt, alloc, net_desk(alloc)?, links, gate)
 }
 
 /// The same with a new gate.

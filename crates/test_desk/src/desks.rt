@@ -1,6 +1,7 @@
 use crate::clients::{Client, ClientWriter, lines_of, links_of};
 use crate::clocks::RisingClock;
 use crate::holding::{HoldingGate, Holds};
+use crate::machines::net_desk;
 use ov_desk::{Served, Unserved, serve_links};
 use ov_ends::Source;
 use ov_keeper::Keeper;
@@ -13,8 +14,7 @@ use std::rt::Clock;
 use std::sync::Wait;
 use std::test::Fail;
 use std::thread::Threads;
-use test_basics::{Faults, is_text};
-use test_support::net_core;
+use test_basics::is_text;
 
 /// Serves links through a gate, by a clock that rises.
 pub(crate) fn serve<R, K, D, S, G>(
@@ -97,8 +97,7 @@ fn converse_after<R: Threads + Wait + Clock + Sync>(
     clients: &[Client<'_>],
     gate: &HoldingGate<'_, R>,
 ) -> Result<String, Fail> {
-    let core = net_core(alloc, Faults::NONE)?;
-    Ok(converse_at(rt, alloc, Desk::new(alloc, core), clients, gate)?)
+    Ok(converse_at(rt, alloc, net_desk(alloc)?, clients, gate)?)
 }
 
 /// The outcome of clients at a new desk whose workers are held up so.

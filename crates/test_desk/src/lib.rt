@@ -25,6 +25,8 @@ mod holding;
 #[cfg(test)]
 mod lobby;
 #[cfg(test)]
+mod machines;
+#[cfg(test)]
 mod orders;
 #[cfg(test)]
 mod readers;

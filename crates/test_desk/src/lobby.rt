@@ -1,6 +1,7 @@
 //! A lobby and its clients, which come when their listener gives them, with what each of them was written.
 
 use crate::clocks::RisingClock;
+use crate::machines::net_desk;
 use crate::told::{push, tells};
 use ov_desk::serve_lobby;
 use ov_ends::Watched;
@@ -17,8 +18,6 @@ use std::test::Fail;
 use std::thread::Threads;
 use std::time::Duration;
 use std::{io, thread};
-use test_basics::Faults;
-use test_support::net_core;
 
 /// The largest number of clients.
 const CLIENTS: usize = 70;
@@ -167,10 +166,7 @@ impl<R: Wait + Clock> Read for LobbyReader<'_, '_, '_, R> {
         if self.line.is_empty() {
             self.go_on();
         }
-        let n = self.line.len().min(buf.len());
-        buf[..n].copy_from_slice(&self.line[..n]);
-        self.line = &self.line[n..];
-        Ok(n)
+        self.line.read(buf)
     }
 }
 
@@ -306,7 +302,7 @@ fn conversed_on<R: Threads + Wait + Clock + Sync>(
     clients: &[Coming<'_>],
     wanted: &str,
 ) -> Result<(), Fail> {
-    let desk = Desk::new(alloc, net_core(alloc, Faults::NONE)?);
+    let desk = net_desk(alloc)?;
     let listener = LobbyListener {
         board,
         client: 0,

@@ -10,45 +10,26 @@ use ov_threads::{HandRing, start_reader};
 use ov_workers::{Common, Inlet, Point, ReadCause, ReadEnd, read_worker};
 use rtrb::{Consumer, Producer};
 use std::alloc::{AllocError, Global};
-use std::io::{ErrorKind, Read};
+use std::io::ErrorKind;
 use std::marker::Brand;
 use std::sync::Wait;
 use std::sync::ledger::{Blank, Ledger, Share};
 use std::test::Fail;
+use std::thread;
 use std::thread::{Scope, Threads};
-use std::{io, thread};
+use test_basics::SlowReader;
 
 /// Two messages, with white space before the second.
 pub(crate) const STREAM: &[u8] =
     b"{\"id\":0,\"method\":\"echo\",\"params\":[]}\n{\"id\":1,\"method\":\"echo\",\"params\":[\"}\"]}";
 
-/// A reader that gives at most `most` bytes per call, and fails after `calls` calls.
-#[derive(Drop)]
-pub(crate) struct PieceReader<'a> {
-    rest: &'a [u8],
-    most: usize,
-    calls: usize,
-}
-
-impl Read for PieceReader<'_> {
-    fn read(&mut self, buf: &mut [u8]) -> io::Result<usize> {
-        if self.calls == 0 {
-            return Err(io::Error::from(ErrorKind::Other));
-        }
-        self.calls -= 1;
-        let n = self.most.min(self.rest.len()).min(buf.len());
-        buf[..n].copy_from_slice(&self.rest[..n]);
-        self.rest = &self.rest[n..];
-        Ok(n)
-    }
-}
-
 /// A reader of the stream that never fails.
-pub(crate) fn reader_of(rest: &[u8], most: usize) -> PieceReader<'_> {
-    PieceReader {
+pub(crate) fn reader_of(rest: &[u8], most: usize) -> SlowReader<'_> {
+    SlowReader {
         rest,
         most,
         calls: 1_000,
+        error: ErrorKind::Other,
     }
 }
 
@@ -105,7 +86,7 @@ fn with_last(
 /// Has a worker bring what a reader gives into a ring.
 fn bring<R: Wait, L: Ledger>(
     common: Common<'_, R, L, CountingGate>,
-    reader: PieceReader<'_>,
+    reader: SlowReader<'_>,
     ring: Producer<Item>,
     share: Share<L>,
 ) -> Noted
@@ -125,7 +106,7 @@ fn read_with<R: Wait, L: Ledger>(
     alloc: Global,
     order: &Order<L>,
     share: Share<L>,
-    reader: PieceReader<'_>,
+    reader: SlowReader<'_>,
 ) -> Result<String, AllocError>
     requires { (share.parts ≡ L.parts) × (share.parts ≡ 1) × (share.amount ≡ 0) }
 {
@@ -146,7 +127,7 @@ fn read_by<R: Wait, L: Ledger>(
     rt: &R,
     alloc: Global,
     blank: Blank,
-    reader: PieceReader<'_>,
+    reader: SlowReader<'_>,
 ) -> Result<String, AllocError>
     requires name { blank.name ≡ L.name }
     requires parts { (blank.parts ≡ L.parts) × (blank.parts ≡ 1) }
@@ -160,7 +141,7 @@ fn read_by<R: Wait, L: Ledger>(
 fn brings<R: Wait>(
     rt: &R,
     alloc: Global,
-    reader: PieceReader<'_>,
+    reader: SlowReader<'_>,
     wanted: &str,
 ) -> Result<(), Fail> {
     let lines = read_by::<R, Brand>(rt, alloc, Blank::new(1), reader);
@@ -197,10 +178,11 @@ ReadFault
 
 #[test]
 fn the_second_read_fails(rt: HostRuntime) -> Result<(), Fail> {
-    let reader = PieceReader {
+    let reader = SlowReader {
         rest: STREAM,
         most: 40,
         calls: 1,
+        error: ErrorKind::Other,
     };
     brings(&rt, rt.alloc(), reader, ONE_AND_FAULT)
 }
@@ -209,7 +191,7 @@ fn the_second_read_fails(rt: HostRuntime) -> Result<(), Fail> {
 fn dismiss_in<'s, E, R: Threads + Wait + Sync, L: Ledger + Send + Sync + 's>(
     common: Common<'s, R, L, CountingGate>,
     scope: &Scope<'s, E>,
-    hand: HandRing<Watched<PieceReader<'static>>>,
+    hand: HandRing<Watched<SlowReader<'static>>>,
     inlet: Inlet<L>,
 ) -> bool
     requires { sent inlet.ring ≡ [] }
@@ -225,7 +207,7 @@ fn dismiss_in<'s, E, R: Threads + Wait + Sync, L: Ledger + Send + Sync + 's>(
 /// The same, in a scope of its own.
 fn dismiss<'a, R: Threads + Wait + Sync, L: Ledger + Send + Sync>(
     common: Common<'a, R, L, CountingGate>,
-    hand: HandRing<Watched<PieceReader<'static>>>,
+    hand: HandRing<Watched<SlowReader<'static>>>,
     inlet: Inlet<L>,
 ) -> bool
     requires { sent inlet.ring ≡ [] }
@@ -255,7 +237,7 @@ fn dismissed_with<R: Threads + Wait + Sync, L: Ledger + Send + Sync>(
     alloc: Global,
     order: &Order<L>,
     share: Share<L>,
-    hand: HandRing<Watched<PieceReader<'static>>>,
+    hand: HandRing<Watched<SlowReader<'static>>>,
 ) -> Result<String, AllocError>
     requires { (share.parts ≡ 1) × (share.amount ≡ 0) }
 {

@@ -1,6 +1,7 @@
 //! Sessions of clients over the loopback interface that are served together, at an address, and over pipes.
 
 use crate::addresses::address_of;
+use crate::machines::net_core;
 use crate::talks::{client_at, talk};
 use ov_base::Text;
 use ov_core::Core;
@@ -24,8 +25,7 @@ use std::sync::Wait;
 use std::test::Fail;
 use std::thread;
 use std::thread::Threads;
-use test_basics::{Counter, Faults, holds, is_text, net};
-use test_support::net_core;
+use test_basics::{Counter, holds, is_text, net};
 
 /// The first client owns a lock, and gives it up after the second was told to wait. The second is then notified that it owns
 /// the lock.
@@ -77,7 +77,7 @@ fn served<R: Threads + Wait + Clock + Sync>(
     alloc: Global,
     links: VecDeque<Link<ClientReader, ClientWriter>>,
 ) -> Result<String, Fail> {
-    let core = net_core(alloc, Faults::NONE)?;
+    let core = net_core(alloc)?;
     served_by(rt, alloc, core, links)
 }
 
@@ -143,7 +143,7 @@ fn ending_at<R>(rt: &R, alloc: Global, address: &str) -> Result<Ending, Fail>
 where
     R: Net<Listener = TcpListener, Stream = TcpStream> + Threads + Wait + Clock + Eprint + Sync,
 {
-    let core = net_core(alloc, Faults::NONE)?;
+    let core = net_core(alloc)?;
     Ok(ending_by(rt, alloc, core, address))
 }
 

@@ -2,7 +2,7 @@ ghost use Rattle.std.specs.Prelude.{◌≡◌, [], IfOk};
 ghost use Rattle.rtrb.specs.Ring.{sent, received};
 
 use crate::gates::CountingGate;
-use crate::readers::{Item, PieceReader, STREAM, reader_of};
+use crate::readers::{Item, STREAM, reader_of};
 use crate::told::{begin, next, tells};
 use ov_base::Bytes;
 use ov_ends::Watched;
@@ -18,6 +18,7 @@ use std::sync::ledger::{Blank, Ledger, Share};
 use std::test::Fail;
 use std::thread::{Scope, Threads};
 use std::{io, thread};
+use test_basics::SlowReader;
 
 /// A writer that keeps what it is given, and rings a bell at each flush.
 #[derive(Drop)]
@@ -40,7 +41,7 @@ impl<R: Wait> Write for RingingWriter<'_, R> {
 }
 
 /// The reader of the session.
-type SessionReader = Watched<PieceReader<'static>>;
+type SessionReader = Watched<SlowReader<'static>>;
 
 /// The writer of the session.
 type SessionWriter<'a, R> = Watched<RingingWriter<'a, R>>;

@@ -1,7 +1,8 @@
 //! A desk that takes one item at a time: from which ring, and what it then puts into the rings of all sessions.
 
+use crate::machines::net_desk;
 use ov_base::Bytes;
-use ov_core::{Cause, Core, Session};
+use ov_core::{Cause, Session};
 use ov_keeper::Keeper;
 use ov_lanes::{Desk, Lane};
 use ov_order::{Brought, Sent, inbound_ring, outbound_ring};
@@ -11,8 +12,7 @@ use ov_workers::ReadCause;
 use rtrb::{Consumer, Producer};
 use std::alloc::{AllocError, Global};
 use std::test::Fail;
-use test_basics::{Faults, Scripted, agrees};
-use test_support::net_core;
+use test_basics::{Scripted, agrees};
 
 /// The workers' ends of a session's rings.
 #[derive(Drop)]
@@ -182,21 +182,19 @@ impl<K: Keeper + Drop, D: Draws + Drop> Scripted for Bench<K, D> {
     }
 }
 
-/// Fails unless a desk over this machine answers this script.
+/// Fails unless this desk answers this script.
 fn answers_over<K: Keeper + Drop, D: Draws + Drop>(
     alloc: Global,
-    core: Core<K, D>,
+    desk: Desk<K, D>,
     script: &str,
 ) -> Result<(), Fail> {
-    let desk = Desk::new(alloc, core);
     let sides = Vec::new(alloc);
     agrees(alloc, Bench { desk, sides }, script)
 }
 
 /// Fails unless a new desk answers this script.
 fn answers(alloc: Global, script: &str) -> Result<(), Fail> {
-    let core = net_core(alloc, Faults::NONE)?;
-    answers_over(alloc, core, script)
+    answers_over(alloc, net_desk(alloc)?, script)
 }
 
 /// Both sessions have a message, and the second gets a turn first. No session has the serial 3.

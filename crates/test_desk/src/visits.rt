@@ -1,42 +1,44 @@
 //! A lobby over the loopback interface: for two clients at a time, and for many that come one after another.
 
-use crate::clocks::RisingClock;
+use crate::machines::net_desk;
 use crate::talks::{client_at, meets_end, talk};
 use ov_desk::serve_lobby;
 use ov_ends::Watched;
 use ov_keeper::Keeper;
 use ov_lanes::Desk;
+use ov_listen::MonotonicClock;
 use ov_requests::Draws;
-use ov_sockets::listen;
+use ov_sockets::{ClientReader, ClientWriter, listen};
 use ov_workers::{FreeGate, Link, Listen};
 use std::alloc::Global;
 use std::fs::{Files, read_dir, read_to_string};
+use std::io::BufWriter;
 use std::net::{Net, Shutdown, TcpListener, TcpStream};
 use std::rt::Clock;
 use std::sync::Wait;
 use std::test::Fail;
 use std::thread;
 use std::thread::Threads;
-use test_basics::{Faults, is_text};
-use test_support::net_core;
+use test_basics::is_text;
 
 /// The first connections of a listener, and no others.
 #[derive(Drop)]
 struct Few<'l> {
+    alloc: Global,
     listener: &'l TcpListener,
     left: usize,
 }
 
-impl Listen<Watched<TcpStream>, Watched<TcpStream>> for Few<'_> {
+impl Listen<ClientReader, ClientWriter> for Few<'_> {
     ghost gives = { λ _ _ _. Unit {0} };
 
-    fn accept(&mut self) -> Option<Link<Watched<TcpStream>, Watched<TcpStream>>> {
+    fn accept(&mut self) -> Option<Link<ClientReader, ClientWriter>> {
         self.left = self.left.checked_sub(1)?;
         let (stream, _) = self.listener.accept().ok()?;
-        let writer = Watched::new(stream.try_clone().ok()?);
+        let output = BufWriter::new(self.alloc, stream.try_clone().ok()?).ok()?;
         Some(Link {
             reader: Watched::new(stream),
-            writer,
+            writer: Watched::new(output),
         })
     }
 }
@@ -48,7 +50,7 @@ fn serve_few<R: Threads + Wait + Clock + Sync, K: Keeper + Drop, D: Draws + Drop
     desk: Desk<K, D>,
     few: Few<'_>,
 ) -> Option<usize> {
-    let clock = &mut RisingClock { moment: 0 };
+    let clock = &mut MonotonicClock::new(rt);
     match serve_lobby(rt, alloc, desk, few, &FreeGate, clock) {
         Ok(desk) => Some(desk.core().history().len()),
         Err(_refused) => None,
@@ -62,8 +64,13 @@ fn serve_first<R: Threads + Wait + Clock + Sync>(
     listener: &TcpListener,
     left: usize,
 ) -> Result<Option<usize>, Fail> {
-    let desk = Desk::new(alloc, net_core(alloc, Faults::NONE)?);
-    Ok(serve_few(rt, alloc, desk, Few { listener, left }))
+    let desk = net_desk(alloc)?;
+    let few = Few {
+        alloc,
+        listener,
+        left,
+    };
+    Ok(serve_few(rt, alloc, desk, few))
 }
 
 /// After the first client was answered, the second sends a request and a stray bracket. It does not end, but its connection
