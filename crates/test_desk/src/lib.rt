@@ -13,8 +13,6 @@ mod connections;
 #[cfg(test)]
 mod conversations;
 #[cfg(test)]
-mod crashes;
-#[cfg(test)]
 mod crowds;
 #[cfg(test)]
 mod desks;

@@ -1,5 +1,5 @@
 //! Tests of the server: the machine with transactions, waits, locks and monitors; its streams; one session over a reader and
-//! a writer; and the program's arguments and endings.
+//! a writer; a desk over files that fail; and the program's arguments and endings.
 #![tactic(auto)]
 
 #[cfg(test)]
@@ -10,6 +10,8 @@ mod conversions;
 mod crashes;
 #[cfg(test)]
 mod cut_off;
+#[cfg(test)]
+mod desks;
 #[cfg(test)]
 mod failing;
 #[cfg(test)]

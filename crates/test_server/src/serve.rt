@@ -18,8 +18,9 @@ const REPLY: &str = r#"{"error":null,"id":0,"result":["Net"]}"#;
 /// No limit.
 pub(crate) const ALL: usize = 1_000_000;
 
+/// A clock that stands still.
 #[derive(Drop)]
-struct StillClock;
+pub(crate) struct StillClock;
 
 impl Clock for StillClock {
     ghost use Rattle.std.specs.Prelude.{◌≡◌};
@@ -99,7 +100,7 @@ fn served<H: Wait, R: Read + Drop, W: Write + Drop>(
 }
 
 /// Why a session ended, and what was written.
-fn told_of(alloc: Global, cause: Cause, taken: &[u8]) -> Result<String, AllocError> {
+pub(crate) fn told_of(alloc: Global, cause: Cause, taken: &[u8]) -> Result<String, AllocError> {
     let taken = str::from_utf8(taken).unwrap_or("no text");
     format!(in alloc; "{cause:?} {taken}")
 }

@@ -1,23 +1,24 @@
 //! Clients of a desk whose database is in two files, one of which stops, and what is found when both are opened again.
 
-use crate::clients::{ClientWriter, client_of, lines_of, links_of};
-use crate::clocks::RisingClock;
-use crate::holding::{HoldingGate, NO_HOLDS};
+use crate::serve::{StillClock, reader_of, told_of, writer_of};
 use ov_base::Text;
-use ov_core::Core;
-use ov_desk::{Served, serve_links};
+use ov_core::{Cause, Core};
+use ov_desk::{End, Served, serve_links};
+use ov_ends::Watched;
 use ov_keeper::Keeper;
 use ov_lanes::Desk;
 use ov_store::{Store, reopen_after_crash};
+use ov_workers::{FreeGate, Link};
 use sqlite::{Alter, Connection, Files, Options};
 use sqlite_disk::{Crash, Fuse, Memory};
 use sqlite_trees::store::Reopen;
-use std::alloc::Global;
+use std::alloc::{AllocError, Global};
+use std::collections::VecDeque;
 use std::rt::Clock;
 use std::sync::Wait;
 use std::test::Fail;
 use std::thread::Threads;
-use test_basics::{Counter, Keeping, NET, Scripted, net};
+use test_basics::{Counter, Keeping, NET, Scripted, SlowReader, SlowWriter, net};
 
 /// What the first client sends.
 const FIRST: &str =
@@ -37,14 +38,58 @@ struct Outcome {
     found: String,
 }
 
+/// The reader of a client.
+type ClientReader = Watched<SlowReader<'static>>;
+
+/// The writer of a client.
+type ClientWriter = Watched<SlowWriter>;
+
+/// The links of the two clients.
+fn links_of_both(alloc: Global) -> Result<VecDeque<Link<ClientReader, ClientWriter>>, AllocError> {
+    let mut links = VecDeque::new(alloc);
+    for message in [FIRST, SECOND] {
+        links.push_back(Link {
+            reader: Watched::new(reader_of(message.as_bytes())),
+            writer: Watched::new(writer_of(alloc)),
+        })?;
+    }
+    Ok(links)
+}
+
+/// Why a client's session was closed, and what it was written.
+fn cause_and_taken<S: Drop>(end: End<S, ClientWriter>) -> (Cause, Vec<u8>) {
+    (end.cause, end.writer.into_inner().taken)
+}
+
+/// Adds the line of a client.
+fn push_line(alloc: Global, lines: &mut String, told: (Cause, Vec<u8>)) -> Result<(), AllocError> {
+    let (cause, taken) = told;
+    let line = told_of(alloc, cause, taken.as_slice())?;
+    lines.push_str(line.as_str())?;
+    lines.push_str("\n")
+}
+
+/// The lines of what remains of clients, which is taken out.
+fn lines_of<S: Drop>(
+    alloc: Global,
+    ends: &mut VecDeque<End<S, ClientWriter>>,
+) -> Result<String, AllocError> {
+    let mut lines = String::new(alloc);
+    for _ in 0..ends.len() {
+        if let Some(end) = ends.pop_front() {
+            push_line(alloc, &mut lines, cause_and_taken(end))?;
+        }
+    }
+    Ok(lines)
+}
+
 /// A line for each client that was served, and the keeper, which is given back.
 fn told_and_kept<K: Keeper + Drop, S: Drop>(
     alloc: Global,
     served: Served<K, Counter, S, ClientWriter>,
-    is_late: bool,
 ) -> Result<(K, String), Fail> {
     let Served { desk, mut ends } = served;
-    let told = lines_of(alloc, &mut ends, is_late);
+    let told = lines_of(alloc, &mut ends);
     let keeper = desk.into_core().into_keeper();
     Ok((keeper, told?))
 }
@@ -54,12 +99,11 @@ fn serve_both<R: Threads + Wait + Clock + Sync, K: Keeper + Drop>(
     rt: &R,
     alloc: Global,
     core: Core<K, Counter>,
-    gate: &HoldingGate<'_, R>,
 ) -> Result<(K, String), Fail> {
-    let links = links_of(alloc, gate, &[client_of(FIRST), client_of(SECOND)])?;
+    let links = links_of_both(alloc)?;
     let desk = Desk::new(alloc, core);
-    match serve_links(rt, alloc, desk, links, gate, &mut RisingClock { moment: 0 }) {
-        Ok(served) => told_and_kept(alloc, served, gate.is_late()),
+    match serve_links(rt, alloc, desk, links, &FreeGate, &mut StillClock) {
+        Ok(served) => told_and_kept(alloc, served),
         Err(_) => Err(Fail::new("not served")),
     }
 }
@@ -70,10 +114,9 @@ fn serve_over<R: Threads + Wait + Clock + Sync, K: Keeper + Drop>(
     alloc: Global,
     keeper: K,
 ) -> Result<(K, String), Fail> {
-    let gate = HoldingGate::new(rt, alloc, NO_HOLDS)?;
     let schema = net(alloc)?;
     match Core::open(alloc, keeper, schema, Counter::new()) {
-        Ok(core) => serve_both(rt, alloc, core, &gate),
+        Ok(core) => serve_both(rt, alloc, core),
         Err(refused) => Ok((refused.keeper, String::new(alloc))),
     }
 }
