@@ -3,6 +3,8 @@
 #![tactic(auto)]
 
 #[cfg(test)]
+mod callers;
+#[cfg(test)]
 mod checkpoints;
 #[cfg(test)]
 mod conversions;
@@ -31,9 +33,13 @@ mod serve;
 #[cfg(test)]
 mod server;
 #[cfg(test)]
+mod steps;
+#[cfg(test)]
 mod stops;
 #[cfg(test)]
 mod streams;
+#[cfg(test)]
+mod texts;
 #[cfg(test)]
 mod transact;
 #[cfg(test)]

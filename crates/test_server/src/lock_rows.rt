@@ -1,9 +1,9 @@
 //! Locks and `assert`, call by call (RFC 7047, 4.1.8 to 4.1.10 and 5.2.10).
 
+use crate::callers::calls;
 use crate::made::calls_as;
 use std::alloc::{AllocError, Global};
 use std::test::Fail;
-use test_support::calls;
 
 /// The first session that asks becomes the owner. The second waits, and can neither assert that it owns the lock nor steal
 /// it.

@@ -1,4 +1,5 @@
 use crate::made::tells_as;
+use crate::steps::{NetCore, steps};
 use ov_core::Core;
 use ov_db::{OpenFault, RefusedOpen};
 use ov_keeper::Keeper;
@@ -7,7 +8,6 @@ use std::test::Fail;
 use test_basics::{
     Counter, Faults, NET, NetKeeper, failing, holds, is_text, keeper_of, net, net_keeper,
 };
-use test_support::{NetCore, steps};
 
 /// Up to 64 sessions are open, each with its own key. The key of a closed session is used again.
 const SIXTY_FOUR: &str = r#"free -> 64

@@ -1,22 +1,14 @@
-//! Scripts, conversations and messages that a test has made.
+//! Scripts and conversations that a test has made.
 
+use crate::callers::calls;
 use crate::server::converses;
-use ov_base::Bytes;
-use ov_rpc::Received;
 use std::alloc::{AllocError, Global};
 use std::test::Fail;
 use test_basics::is_text;
-use test_support::calls;
 
 /// A text that was made. Its error is converted here, so that callers need not prove that again.
 pub(crate) fn made(text: Result<String, AllocError>) -> Result<String, Fail> {
     Ok(text?)
-}
-
-/// The message of a text.
-pub(crate) fn received(alloc: Global, text: &str) -> Result<Received, Fail> {
-    let text = Bytes::from_slice(alloc, text.as_bytes())?;
-    Ok(Received::read(alloc, text)?)
 }
 
 /// Runs a script of calls that was made.

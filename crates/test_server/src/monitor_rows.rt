@@ -1,11 +1,11 @@
 //! Monitors, call by call: their initial rows, and the updates of each commit (RFC 7047, 4.1.5 to 4.1.7).
 
+use crate::callers::{calls, calls_over};
 use crate::made::{calls_as, converses_as};
 use crate::server::converses;
 use std::alloc::{AllocError, Global};
 use std::test::Fail;
 use test_basics::Faults;
-use test_support::{calls, calls_over};
 
 /// A row is inserted, one is renamed, and one is deleted: each update comes before the reply. A change of its load alone
 /// sends none.

@@ -1,4 +1,5 @@
 use crate::made::made;
+use crate::steps::net_core;
 use ov_core::{Cause, StepFault};
 use ov_ends::{Clock, Source, Watched};
 use ov_serve::serve_one;
@@ -9,7 +10,6 @@ use std::io::{ErrorKind, Read, Write};
 use std::sync::Wait;
 use std::test::Fail;
 use test_basics::{Faults, SlowReader, SlowWriter, is_text};
-use test_support::net_core;
 
 const REQUEST: &[u8] = b"{\"id\":0,\"method\":\"list_dbs\",\"params\":[]}";
 

@@ -1,9 +1,10 @@
+use crate::steps::net_core;
+use crate::texts::{fact_text, number_text, text_of_frame};
 use ov_base::Bytes;
 use ov_streams::{StreamEvent, Streams};
 use std::alloc::{AllocError, Global};
 use std::test::Fail;
 use test_basics::{Counter, Faults, NetKeeper, Scripted, agrees};
-use test_support::{fact_text, net_core, number_text, text_of_frame};
 
 /// The streams of a server, driven by a conversation.
 ///

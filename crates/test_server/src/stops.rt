@@ -1,7 +1,7 @@
 //! Machines over files that fail, and what is found when the files are opened again.
 
 use crate::failing::{Failing, Image, NEVER, Stop, files_of, image_of, image_of_crash, no_files};
-use crate::made::received;
+use crate::texts::{received, session_of};
 use ov_base::{Bytes, Text};
 use ov_core::{Core, Event};
 use ov_keeper::Keeper;
@@ -13,7 +13,6 @@ use sqlite_disk::{Fuse, Memory};
 use std::alloc::{AllocError, Global};
 use std::test::Fail;
 use test_basics::{Counter, NET, holds, is_text, schema_of_text};
-use test_support::session_of;
 
 /// How files that do not fail are prepared.
 #[derive(Clone, Copy)]

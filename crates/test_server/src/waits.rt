@@ -1,10 +1,11 @@
-use crate::made::{made, received};
+use crate::made::made;
+use crate::steps::{NetCore, net_core};
+use crate::texts::{number_or_none, received, session_of, step_text};
 use ov_core::{Attempt, Cause, Event};
 use ov_rpc::Received;
 use std::alloc::{AllocError, Global};
 use std::test::Fail;
 use test_basics::{Faults, Scripted, agrees};
-use test_support::{NetCore, net_core, number_or_none, session_of, step_text};
 
 /// A machine driven by a script, for transactions that wait.
 ///

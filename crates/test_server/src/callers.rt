@@ -1,4 +1,4 @@
-use crate::machine::{NetCore, net_core};
+use crate::steps::{NetCore, net_core};
 use crate::texts::{fact_text, parts_of, push, received, session_of, step_text, text_of_frame};
 use ov_core::{Cause, Event, Session};
 use ov_rpc::Received;
@@ -94,12 +94,12 @@ impl Scripted for Callers {
 }
 
 /// Runs a script of commands on a new machine, whose keeper fails as `faults` says.
-pub fn calls_over(alloc: Global, faults: Faults, script: &str) -> Result<(), Fail> {
+pub(crate) fn calls_over(alloc: Global, faults: Faults, script: &str) -> Result<(), Fail> {
     let core = net_core(alloc, faults)?;
     agrees(alloc, Callers { core }, script)
 }
 
 /// The same with a keeper that keeps everything.
-pub fn calls(alloc: Global, script: &str) -> Result<(), Fail> {
+pub(crate) fn calls(alloc: Global, script: &str) -> Result<(), Fail> {
     calls_over(alloc, Faults::NONE, script)
 }

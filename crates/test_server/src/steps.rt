@@ -13,10 +13,10 @@ use std::test::Fail;
 use test_basics::{Counter, Faults, NetKeeper, Scripted, agrees, net, net_keeper};
 
 /// The machine over a database Net.
-pub type NetCore = Core<NetKeeper, Counter>;
+pub(crate) type NetCore = Core<NetKeeper, Counter>;
 
 /// The machine over a new database Net, whose keeper fails as `faults` says.
-pub fn net_core(alloc: Global, faults: Faults) -> Result<NetCore, Fail>
+pub(crate) fn net_core(alloc: Global, faults: Faults) -> Result<NetCore, Fail>
     ensures { IfOk result HasNoHistory }
 {
     let keeper = net_keeper(alloc, faults)?;
@@ -180,7 +180,7 @@ impl Scripted for Machine {
 }
 
 /// Runs a script of commands on a new machine.
-pub fn steps(alloc: Global, script: &str) -> Result<(), Fail> {
+pub(crate) fn steps(alloc: Global, script: &str) -> Result<(), Fail> {
     let core = net_core(alloc, Faults::NONE)?;
     agrees(alloc, Machine { core }, script)
 }

@@ -5,17 +5,17 @@ use std::alloc::Global;
 use std::test::Fail;
 
 /// The session of a serial. Its key is not known here, and the machine goes by serials.
-pub fn session_of(serial: u64) -> Session {
+pub(crate) fn session_of(serial: u64) -> Session {
     Session { key: 0, serial }
 }
 
 /// The text of a number.
-pub fn number_text(alloc: Global, number: u64) -> Result<String, Fail> {
+pub(crate) fn number_text(alloc: Global, number: u64) -> Result<String, Fail> {
     Ok(format!(in alloc; "{number}")?)
 }
 
 /// The text of a number, or `none`.
-pub fn number_or_none(alloc: Global, number: Option<u64>) -> Result<String, Fail> {
+pub(crate) fn number_or_none(alloc: Global, number: Option<u64>) -> Result<String, Fail> {
     match number {
         Some(number) => number_text(alloc, number),
         None => Ok(String::from_str(alloc, "none")?),
@@ -28,7 +28,7 @@ pub(crate) fn parts_of(text: &str) -> (&str, &str) {
 }
 
 /// The text of a frame, or of several.
-pub fn text_of_frame(frame: Bytes) -> Result<String, Fail> {
+pub(crate) fn text_of_frame(frame: Bytes) -> Result<String, Fail> {
     Ok(String::from_utf8(frame.into_vec())?)
 }
 
@@ -49,7 +49,7 @@ pub(crate) fn push_number(alloc: Global, text: &mut String, number: u64) -> Resu
 }
 
 /// The text of a fact: `true` or `false`.
-pub fn fact_text(alloc: Global, is_so: bool) -> Result<String, Fail> {
+pub(crate) fn fact_text(alloc: Global, is_so: bool) -> Result<String, Fail> {
     Ok(format!(in alloc; "{is_so}")?)
 }
 
@@ -59,7 +59,7 @@ pub(crate) fn step_word(alloc: Global, stepped: Stepped) -> Result<String, Fail>
 }
 
 /// The outcome of an event: the serial of the session that was opened, nothing if the event is done, and otherwise a word.
-pub fn step_text(alloc: Global, stepped: Stepped) -> Result<String, Fail> {
+pub(crate) fn step_text(alloc: Global, stepped: Stepped) -> Result<String, Fail> {
     match stepped {
         Stepped::Opened(session) => number_text(alloc, session.serial),
         Stepped::Done => Ok(String::new(alloc)),
