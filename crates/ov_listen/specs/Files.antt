@@ -9,9 +9,10 @@ use Rattle.ov_specs.specs.rows.Cells.{Stored}
 use Rattle.ov_keeper.specs.declared.fault.KeepFault.{KeepFault}
 use Rattle.ov_keeper.specs.Keeping.{IsLoadFault}
 use Rattle.ov_db.specs.declared.fault.RefusedOpen.{RefusedOpen}
-use Rattle.ov_store.specs.Finding.{HasNoTable, IsFileRefused, IsStoredIn, new_contents}
+use Rattle.ov_store.specs.Finding.{new_contents}
 use Rattle.ov_store.specs.StoreState.{MayFind, StoreState}
-use Rattle.ov_store.specs.Whole.{WasWhole}
+use Rattle.ov_files.specs.Found.{HasNoTable, IsFileRefused, IsStoredIn}
+use Rattle.ov_files.specs.Whole.{WasWhole}
 use Rattle.ov_words.specs.declared.ending.Ending.{Ending}
 use Rattle.ov_words.specs.Causes.{by_keeping, by_open}
 use Rattle.ov_listen.specs.Pipes.{PipesState}

@@ -2,9 +2,4 @@ pub mod StoreState
 pub mod Loading
 pub mod SomeHeld
 pub mod Answers
-pub mod Refusing
-pub mod Causes
-pub mod Looking
 pub mod Finding
-pub mod Whole
-pub mod Once

@@ -1,8 +1,9 @@
-ghost use Rattle.std.specs.Prelude.{◌≡◌, ◌⊎◌, ◌<◌, ◌≤◌, ◌-◌, ◌^◌};
+ghost use Rattle.std.specs.Prelude.{◌≡◌, ◌⊎◌, ◌<◌, ◌≤◌, ◌-◌, ◌^◌, IsTrue};
 ghost use Rattle.sqlite.specs.State.{HasCleanDisk};
 ghost use Rattle.sqlite.specs.Held.{state};
 ghost use Rattle.ov_specs.specs.rows.Cells.{format_of};
 ghost use Rattle.ov_keeper.specs.Keeping.{HasFailed, IsCommitFault};
+ghost use Rattle.ov_tables.specs.Format.{stored_in};
 ghost use Rattle.ov_store.specs.StoreState.{StoreState, store_code, IsAtRest, MayFind};
 
 use ov_keeper::{KeepFault, Loaded};
@@ -81,9 +82,12 @@ impl<S: Alter> Store<S> {
 }
 
 impl<S: Alter + Drop> Store<S> {
-    /// Returns the connection.
+    /// Returns the connection. While it is open, an open finds its last commit.
     pub fn close(self) -> Connection<S>
-        ensures { result ≡ self.connection }
+        ensures same { result ≡ self.connection }
+        ensures found { IsTrue (state S.Store self.connection).is_open
+            → (contents : _) → MayFind S.Store self.connection contents
+            → contents ≡ stored_in (state S.Store self.connection).committed.trees }
     {
         let Store {
             connection,

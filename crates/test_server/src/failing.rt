@@ -1,6 +1,6 @@
 //! A database file and its log in memory, whose calls fail, and what is left of them.
 
-use ov_store::once::FailsOnce;
+use ov_files::once::FailsOnce;
 use sqlite::Files;
 use sqlite_disk::{Crash, Disk, Fuse, Memory};
 use std::alloc::Global;

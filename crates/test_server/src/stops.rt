@@ -4,10 +4,10 @@ use crate::failing::{Failing, Image, NEVER, Stop, files_of, image_of, image_of_c
 use crate::texts::{received, session_of};
 use ov_base::{Bytes, Text};
 use ov_core::{Core, Event};
+use ov_files::once::FailsOnce;
+use ov_files::store_over;
 use ov_keeper::Keeper;
 use ov_schema::Schema;
-use ov_store::once::FailsOnce;
-use ov_store::store_over;
 use sqlite::{Alter, Connection, Files, Options};
 use sqlite_disk::{Fuse, Memory};
 use std::alloc::{AllocError, Global};

@@ -1,6 +1,6 @@
 use crate::stores::{create, open};
+use ov_files::{Store, Unopened, reopen_after_crash};
 use ov_keeper::Keeper;
-use ov_store::{Store, Unopened, reopen_after_crash};
 use sqlite::{Alter, Connection, Files, Options};
 use sqlite_disk::{Crash, Fuse, Memory};
 use sqlite_trees::store::Reopen;

@@ -1,4 +1,4 @@
-use ov_store::MemoryDisk;
+use ov_files::MemoryDisk;
 use sqlite_disk::Disk;
 use std::alloc::Global;
 use std::test::Fail;

@@ -2,8 +2,8 @@
 
 use crate::stores::{FOUND, TWO_COMMITS, kept_in_files};
 use ov_base::Text;
+use ov_files::{close_in_file, store_in_file};
 use ov_keeper::KeepFault;
-use ov_store::{close_in_file, store_in_file};
 use sqlite::{Alter, Connection, FileStore, Unknown};
 use sqlite_disk::Disk;
 use std::fs;

@@ -1,4 +1,4 @@
-use ov_store::once::FailsOnce;
+use ov_files::once::FailsOnce;
 use sqlite_disk::{Crash, Disk, Memory};
 use std::alloc::Global;
 use std::io;

@@ -1,8 +1,8 @@
 use crate::stores::{closed_after, create, created, open, opened};
 use crate::tables::{statement, text_of_left, text_of_other_row};
 use ov_base::Text;
+use ov_files::{Store, Unopened, store_over};
 use ov_keeper::Lines;
-use ov_store::{Store, Unopened, store_over};
 use sqlite::{Alter, Connection};
 use std::alloc::Global;
 use std::test::Fail;

@@ -1,8 +1,8 @@
 ghost use Rattle.std.specs.Prelude.{◌≡◌, false, IfOk};
 
 use ov_base::Text;
+use ov_files::{MemoryDisk, Store, Unopened, close_files, store_in_memory};
 use ov_keeper::Keeper;
-use ov_store::{MemoryDisk, Store, Unopened, store_in_memory};
 use sqlite::{Alter, Connection, FileStore, Files, Options};
 use sqlite_disk::Disk;
 use std::alloc::Global;
@@ -141,7 +141,7 @@ fn found_with<D: Disk + Drop>(
     script: &str,
     next: &str,
 ) -> Result<(), Fail> {
-    let Files { log: _, db } = kept_in_files(alloc, store, script)?.into_files()?;
+    let Files { log: _, db } = close_files(kept_in_files(alloc, store, script)?)?;
     let files = Files { log, db };
     if !files.may_be_used() {
         return Err(Fail::new("not usable"));

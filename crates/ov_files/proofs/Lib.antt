@@ -1,0 +1,3 @@
+pub mod EmptyLemmas
+pub mod FileLemmas
+pub mod CauseLemmas
