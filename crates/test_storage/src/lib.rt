@@ -24,6 +24,8 @@ mod stores;
 #[cfg(test)]
 mod tables;
 #[cfg(test)]
+mod trials;
+#[cfg(test)]
 mod upgrades;
 #[cfg(test)]
 mod volatile;

@@ -3,6 +3,7 @@
 ghost use Rattle.std.specs.Prelude.{◌≡◌, false};
 
 use crate::stores::{closed_after, created};
+use crate::trials::{Trial, found_in_memory};
 use sqlite::types::ValueRef;
 use sqlite::{Alter, Connection, Row};
 use std::alloc::Global;
@@ -59,20 +60,26 @@ fn numbers<S: Alter + Drop>(alloc: Global, connection: &mut Connection<S>) -> Re
 }
 
 /// The numbers of the cells after a script over a new store.
-fn numbers_after<S: Alter + Drop>(
-    alloc: Global,
-    connection: Connection<S>,
-    script: &str,
-) -> Result<String, Fail> {
-    let store = created(alloc, connection)?;
-    let mut connection = closed_after(alloc, store, script)?;
-    numbers(alloc, &mut connection)
+#[derive(Clone, Copy)]
+struct Numbered<'a> {
+    script: &'a str,
+}
+
+impl<'a> Trial for Numbered<'a> {
+    fn found<S: Alter + Drop>(
+        &self,
+        alloc: Global,
+        connection: Connection<S>,
+    ) -> Result<String, Fail> {
+        let store = created(alloc, connection)?;
+        let mut connection = closed_after(alloc, store, self.script)?;
+        numbers(alloc, &mut connection)
+    }
 }
 
 /// Tests the numbers after a script over a new store in memory.
 fn are_numbered(alloc: Global, script: &str, wanted: &str) -> Result<(), Fail> {
-    let connection = Connection::open_in_memory(alloc)?;
-    let found = numbers_after(alloc, connection, script)?;
+    let found = found_in_memory(alloc, &Numbered { script })?;
     is_text(alloc, found.as_str(), wanted)
 }
 

@@ -1,5 +1,6 @@
 use crate::stores::{closed_after, create, created, open, opened};
 use crate::tables::{statement, text_of_left, text_of_other_row};
+use crate::trials::{Trial, found_in_memory};
 use ov_base::Text;
 use ov_files::{Store, Unopened, store_over};
 use ov_keeper::Lines;
@@ -288,16 +289,23 @@ fn execute<S: Alter + Drop>(connection: &mut Connection<S>, words: &str) -> Resu
     Ok(())
 }
 
-/// The answer for the database after these statements.
-fn found<S: Alter + Drop>(
-    alloc: Global,
-    connection: Connection<S>,
+/// A way, after the statements of these words.
+#[derive(Clone, Copy)]
+struct Found<'a> {
     way: Way,
-    words: &str,
-) -> Result<String, Fail> {
-    let mut connection = connection;
-    execute(&mut connection, words)?;
-    text_by(alloc, connection, way)
+    words: &'a str,
+}
+
+impl<'a> Trial for Found<'a> {
+    fn found<S: Alter + Drop>(
+        &self,
+        alloc: Global,
+        connection: Connection<S>,
+    ) -> Result<String, Fail> {
+        let mut connection = connection;
+        execute(&mut connection, self.words)?;
+        text_by(alloc, connection, self.way)
+    }
 }
 
 /// The commands are the words of statements.
@@ -308,8 +316,11 @@ struct Databases {
 
 impl Scripted for Databases {
     fn answer(&mut self, alloc: Global, command: &str) -> Result<String, Fail> {
-        let connection = Connection::open_in_memory(alloc)?;
-        found(alloc, connection, self.way, command)
+        let found = Found {
+            way: self.way,
+            words: command,
+        };
+        found_in_memory(alloc, &found)
     }
 }
 

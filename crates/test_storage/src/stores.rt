@@ -1,5 +1,6 @@
 ghost use Rattle.std.specs.Prelude.{◌≡◌, false, IfOk};
 
+use crate::trials::{Trial, found_in_files, found_in_memory};
 use ov_base::Text;
 use ov_files::{MemoryDisk, Store, Unopened, close_files, store_in_memory};
 use ov_keeper::Keeper;
@@ -113,14 +114,21 @@ pub(crate) fn closed_after<S: Alter + Drop>(
     Ok(kept(alloc, store, script)?.close())
 }
 
-/// Runs a script over the store of a database.
-fn found<S: Alter + Drop>(
-    alloc: Global,
-    connection: Connection<S>,
-    script: &str,
-) -> Result<(), Fail> {
-    closed_after(alloc, opened(alloc, connection)?, script)?;
-    Ok(())
+/// A script over the store of a database. Nothing is found beside its answers.
+#[derive(Clone, Copy)]
+struct Next<'a> {
+    script: &'a str,
+}
+
+impl<'a> Trial for Next<'a> {
+    fn found<S: Alter + Drop>(
+        &self,
+        alloc: Global,
+        connection: Connection<S>,
+    ) -> Result<String, Fail> {
+        closed_after(alloc, opened(alloc, connection)?, self.script)?;
+        Ok(String::new(alloc))
+    }
 }
 
 /// Runs a script over a store in files and returns the store. It is generic over the files, since the proof that the store of
@@ -133,21 +141,21 @@ pub(crate) fn kept_in_files<D: Disk + Drop>(
     kept(alloc, store, script)
 }
 
-/// Runs a script over a store in files, closes it, and runs another over what its file then holds, with this log.
+/// Runs a script over a store in files, closes it, and makes a trial over what its file then holds, with this log.
 fn found_with<D: Disk + Drop>(
     alloc: Global,
     store: Store<FileStore<D>>,
     log: D,
     script: &str,
-    next: &str,
-) -> Result<(), Fail> {
+    next: &Next<'_>,
+) -> Result<String, Fail> {
     let Files { log: _, db } = close_files(kept_in_files(alloc, store, script)?)?;
     let files = Files { log, db };
     if !files.may_be_used() {
         return Err(Fail::new("not usable"));
     }
     match Connection::open_files(alloc, files, Options::new(2)) {
-        Ok(again) => found(alloc, again, next),
+        Ok(again) => found_in_files(alloc, again, next),
         Err(_) => Err(Fail::new("not opened again")),
     }
 }
@@ -155,7 +163,9 @@ fn found_with<D: Disk + Drop>(
 /// The same for a new database in memory, and no log.
 fn found_after_a_close(alloc: Global, script: &str, next: &str) -> Result<(), Fail> {
     let store = store_in_memory(alloc, Text::from_str(alloc, "new")?)?;
-    found_with(alloc, store, MemoryDisk::new(alloc), script, next)
+    let next = Next { script: next };
+    found_with(alloc, store, MemoryDisk::new(alloc), script, &next)?;
+    Ok(())
 }
 
 #[test]
@@ -178,20 +188,29 @@ fn kept_by_failing<K: Keeper + Drop>(
     agrees(alloc, Keeping::new(alloc, failing(keeper, faults)), script)
 }
 
-/// The same over a new store.
-fn kept_by_new<S: Alter + Drop>(
-    alloc: Global,
-    connection: Connection<S>,
+/// The same over a new store. Nothing is found beside the answers.
+#[derive(Clone, Copy)]
+struct Faulty<'a> {
     faults: Faults,
-    script: &str,
-) -> Result<(), Fail> {
-    kept_by_failing(alloc, created(alloc, connection)?, faults, script)
+    script: &'a str,
+}
+
+impl<'a> Trial for Faulty<'a> {
+    fn found<S: Alter + Drop>(
+        &self,
+        alloc: Global,
+        connection: Connection<S>,
+    ) -> Result<String, Fail> {
+        let store = created(alloc, connection)?;
+        kept_by_failing(alloc, store, self.faults, self.script)?;
+        Ok(String::new(alloc))
+    }
 }
 
 /// The same over a new database in memory.
 fn kept_in_memory(alloc: Global, faults: Faults, script: &str) -> Result<(), Fail> {
-    let connection = Connection::open_in_memory(alloc)?;
-    kept_by_new(alloc, connection, faults, script)
+    found_in_memory(alloc, &Faulty { faults, script })?;
+    Ok(())
 }
 
 #[test]

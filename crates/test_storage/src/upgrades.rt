@@ -2,6 +2,7 @@
 
 use crate::opens::text_of_rows;
 use crate::stores::opened;
+use crate::trials::{Trial, found_in_memory};
 use ov_db::{Db, RefusedOpen};
 use ov_keeper::Keeper;
 use ov_rows::Rows;
@@ -36,45 +37,60 @@ fn count<S: Alter + Drop>(connection: &mut Connection<S>, query: &str) -> Result
     Ok(connection.transaction().query_all(query, &[])?.len())
 }
 
-/// Fails unless the table `line` has no row, and `head` and `cell` have those of the lines.
-fn is_in_cells<S: Alter + Drop>(alloc: Global, connection: &mut Connection<S>) -> Result<(), Fail> {
+/// Adds how many rows the tables `line`, `head` and `cell` have.
+fn push_counts<S: Alter + Drop>(
+    alloc: Global,
+    text: &mut String,
+    connection: &mut Connection<S>,
+) -> Result<(), Fail> {
     let lines = count(connection, "SELECT tbl FROM line")?;
     let heads = count(connection, "SELECT tbl FROM head")?;
     let cells = count(connection, "SELECT tbl FROM cell")?;
-    let counts = format!(in alloc; "{lines} {heads} {cells}")?;
-    is_text(alloc, counts.as_str(), "0 2 7")
+    Ok(text.push_str(format!(in alloc; "{lines} {heads} {cells};")?.as_str())?)
 }
 
-/// Opens the rows of a database. Fails unless they are those of the lines, and are stored in format 2 afterwards.
-fn is_upgraded<S: Alter + Drop>(
+/// Opens the rows of a database, and adds the counts of its tables then. Fails unless the rows are those of the lines.
+fn push_upgraded<S: Alter + Drop>(
     alloc: Global,
+    text: &mut String,
     connection: Connection<S>,
 ) -> Result<Connection<S>, Fail> {
     let store = with_rows(alloc, opened(alloc, connection)?)?;
     let mut connection = store.close();
-    is_in_cells(alloc, &mut connection)?;
+    push_counts(alloc, text, &mut connection)?;
     Ok(connection)
 }
 
-/// The same for a database that these statements make, twice.
-fn are_upgraded<S: Alter + Drop>(
-    alloc: Global,
-    connection: Connection<S>,
-    statements: &str,
-) -> Result<(), Fail> {
-    let mut connection = connection;
-    connection.execute_batch(statements)?;
-    let connection = is_upgraded(alloc, connection)?;
-    is_upgraded(alloc, connection)?;
-    Ok(())
+/// Two openings of the database that these statements make: the counts of its tables after each.
+#[derive(Clone, Copy)]
+struct Openings<'a> {
+    statements: &'a str,
 }
 
-/// After the first opening the table of lines is empty, each row has a head, and each of its columns a cell.
+impl<'a> Trial for Openings<'a> {
+    fn found<S: Alter + Drop>(
+        &self,
+        alloc: Global,
+        connection: Connection<S>,
+    ) -> Result<String, Fail> {
+        let mut connection = connection;
+        connection.execute_batch(self.statements)?;
+        let mut text = String::new(alloc);
+        let connection = push_upgraded(alloc, &mut text, connection)?;
+        push_upgraded(alloc, &mut text, connection)?;
+        Ok(text)
+    }
+}
+
+/// After an opening the table of lines is empty, each row has a head, and each of its columns a cell.
 #[test]
 fn a_database_of_format_1_has_format_2_after_an_opening(rt: HostRuntime) -> Result<(), Fail> {
     let statements = whole_file(rt.alloc(), NET, LINES)?;
-    let connection = Connection::open_in_memory(rt.alloc())?;
-    are_upgraded(rt.alloc(), connection, statements.as_str())
+    let openings = Openings {
+        statements: statements.as_str(),
+    };
+    let found = found_in_memory(rt.alloc(), &openings)?;
+    is_text(rt.alloc(), found.as_str(), "0 2 7;0 2 7;")
 }
 
 /// How many rows there are, in words.
