@@ -1,7 +1,8 @@
 //! Machines that are opened with a newer schema than the stored one, or over an older stored format.
 
 use crate::made::made;
-use crate::stops::{Before, Case, fails_once, replies_of, stops};
+use crate::runs::replies_of;
+use crate::stops::{Before, Case, fails_once, stops};
 use ov_core::Core;
 use ov_db::OpenFault;
 use ov_keeper::Keeper;

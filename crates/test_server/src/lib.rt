@@ -29,6 +29,8 @@ mod monitor_rows;
 #[cfg(test)]
 mod old_files;
 #[cfg(test)]
+mod runs;
+#[cfg(test)]
 mod serve;
 #[cfg(test)]
 mod server;

@@ -1,81 +1,34 @@
 //! Machines that are opened over a database of stored format 1.
 
 use crate::conversions::{NOTED, NOTES, ONE, SAME, SELECT};
+use crate::failing::NEVER;
 use crate::made::made;
-use crate::stops::{Before, Case, fails_once, replies_of, stops};
-use ov_core::Core;
-use ov_files::Store;
-use ov_keeper::Keeper;
-use sqlite::{Alter, Connection};
+use crate::runs::{Run, Work, left_after};
+use crate::stops::{Before, Case, fails_once, image_after_statements, stops};
 use std::alloc::Global;
 use std::test::Fail;
-use test_basics::{Counter, NET, is_text, schema_of_text, whole_file};
+use test_basics::{NET, is_text, whole_file};
 
-/// What a machine over a keeper replies when all switches are selected, and the keeper. The hundredth identifier comes next.
-fn selected<K: Keeper + Drop>(alloc: Global, keeper: K, schema: &str) -> Result<(K, String), Fail> {
-    let schema = schema_of_text(alloc, schema)?;
-    let mut core = Core::open(alloc, keeper, schema, Counter::after(99))?;
-    let replies = replies_of(alloc, &mut core, SELECT)?;
-    Ok((core.into_keeper(), replies))
-}
-
-/// The number of rows that a query gives.
-fn count<S: Alter + Drop>(connection: &mut Connection<S>, query: &str) -> Result<usize, Fail> {
-    if !connection.is_autocommit() {
-        return Err(Fail::new("in a transaction"));
-    }
-    Ok(connection.transaction().query_all(query, &[])?.len())
-}
-
-/// How many rows the tables `line`, `head` and `cell` have, after a text.
-fn with_counts<S: Alter + Drop>(
-    alloc: Global,
-    text: &str,
-    connection: &mut Connection<S>,
-) -> Result<String, Fail> {
-    let lines = count(connection, "SELECT tbl FROM line")?;
-    let heads = count(connection, "SELECT tbl FROM head")?;
-    let cells = count(connection, "SELECT tbl FROM cell")?;
-    made(format!(in alloc; "{text}{lines} {heads} {cells}"))
-}
-
-/// The store of the database that these statements make.
-fn store_after<S: Alter + Drop>(
-    alloc: Global,
-    connection: Connection<S>,
-    statements: &str,
-) -> Result<Store<S>, Fail> {
-    let mut connection = connection;
-    connection.execute_batch(statements)?;
-    if !connection.is_autocommit() {
-        return Err(Fail::new("in a transaction"));
-    }
-    Ok(Store::open(alloc, connection)?)
-}
-
-/// The switches under this schema in the database that these statements make, and how many rows its tables have then.
-fn found<S: Alter + Drop>(
-    alloc: Global,
-    connection: Connection<S>,
-    statements: &str,
-    schema: &str,
-) -> Result<String, Fail> {
-    let store = store_after(alloc, connection, statements)?;
-    let (store, replies) = selected(alloc, store, schema)?;
-    with_counts(alloc, replies.as_str(), &mut store.close())
-}
-
-/// The same for the database of format 1 with one switch under Net, in memory.
-fn found_in_memory(alloc: Global, schema: &str) -> Result<String, Fail> {
+/// What a machine replies under this schema when all switches are selected, in the database of format 1 with one switch under
+/// Net; and how many rows its tables have then. The hundredth identifier comes next.
+fn found(alloc: Global, schema: &str) -> Result<String, Fail> {
     let statements = whole_file(alloc, NET, ONE)?;
-    let connection = Connection::open_in_memory(alloc)?;
-    found(alloc, connection, statements.as_str(), schema)
+    let image = image_after_statements(alloc, statements.as_str())?;
+    let run = Run {
+        drawn: 99,
+        schema,
+        messages: SELECT,
+    };
+    let mut found = String::new(alloc);
+    let left = left_after(alloc, &image, NEVER, 2, Work::Machine(run), &mut found)?;
+    left_after(alloc, &left.image, NEVER, 3, Work::Counts, &mut found)?;
+    Ok(found)
 }
 
 /// Fails unless that database replies this under the schema, and then has this many rows.
 fn opens_as(alloc: Global, schema: &str, reply: &str, counts: &str) -> Result<(), Fail> {
     let wanted = made(format!(in alloc; "{reply}{counts}"))?;
-    let found = found_in_memory(alloc, schema)?;
+    let found = found(alloc, schema)?;
     is_text(alloc, found.as_str(), wanted.as_str())
 }
 

@@ -1,6 +1,6 @@
 //! What tests do with new databases in memory.
 
-use ov_store::open_in_memory;
+use ov_files::open_in_memory;
 use sqlite::{Alter, Connection, FileStore};
 use sqlite_disk::Disk;
 use std::alloc::Global;
