@@ -60,14 +60,8 @@ fn under_net(messages: &str) -> Work<'_> {
 /// The image that messages leave over new files that do not fail, under the schema Net.
 fn image_after_messages(alloc: Global, messages: &str) -> Result<Image, Fail> {
     let mut replies = String::new(alloc);
-    let left = left_after(
-        alloc,
-        &no_files(alloc),
-        NEVER,
-        1,
-        under_net(messages),
-        &mut replies,
-    )?;
+    let work = under_net(messages);
+    let left = left_after(alloc, &no_files(alloc), NEVER, 1, work, &mut replies)?;
     holds(alloc, !has_error(replies.as_str()), replies.as_str())?;
     Ok(left.image)
 }
