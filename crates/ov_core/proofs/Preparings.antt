@@ -2,7 +2,7 @@
 use Rattle.std.proofs.Common.{◌≡◌, ℕ, List, [], ◌∷◌, ◌++◌, map, refl, sym, ap, subst, ◌∙◌, Bool, true, false, append_assoc}
 use Rattle.std.proofs.lemmas.List.{append-nil, map-append}
 use Rattle.serde_json.specs.Data.{Items}
-use Rattle.ov_db.specs.Changing.{Delta, applied}
+use Rattle.ov_stored.specs.Changing.{Delta, applied}
 use Rattle.ov_db.specs.KeptDatabase.{KeptDatabase}
 use Rattle.ov_outbox.specs.Frames.{posted}
 use Rattle.ov_specs.specs.machine.Machine.{Sent, to_session, updates_sent}

@@ -2,7 +2,7 @@
 use Rattle.std.specs.Prelude.{◌≡◌, ℕ, ◌+◌, List, [], ◌∷◌, ◌++◌, map, Bool, true, false}
 use Rattle.std.specs.List.{flat_map}
 use Rattle.serde_json.specs.Data.{Data, Items, array}
-use Rattle.ov_db.specs.Changing.{Delta, applied}
+use Rattle.ov_stored.specs.Changing.{Delta, applied}
 use Rattle.ov_db.specs.KeptDatabase.{KeptDatabase}
 use Rattle.ov_db.specs.declared.answer.StoreAnswer.{StoreAnswer}
 use Rattle.ov_db.specs.declared.answer.StoreAnswer.TheVariants as store

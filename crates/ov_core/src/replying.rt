@@ -1,5 +1,5 @@
 ghost use Rattle.std.specs.Prelude.{◌≡◌, [], ◌∷◌};
-ghost use Rattle.ov_db.specs.Changing.{applied};
+ghost use Rattle.ov_stored.specs.Changing.{applied};
 ghost use Rattle.ov_specs.specs.machine.Machine.{updates_sent, to_session};
 ghost use Rattle.ov_specs.specs.monitors.Updates.{update_notification};
 ghost use Rattle.ov_core.specs.Preparing.{PreparesFrames, PreparesMore, updates_to_one};

@@ -15,13 +15,13 @@ use Rattle.ov_specs.specs.values.Uuid.{Uuid}
 use Rattle.ov_keeper.specs.declared.fault.KeepFault.{KeepFault}
 use Rattle.ov_keeper.specs.declared.fault.KeepFault.TheVariants as keeping
 use Rattle.ov_keeper.specs.Keeping.{IsCommitFault, IsLoadFault}
-use Rattle.ov_db.specs.declared.fault.OpenFault.{OpenFault}
-use Rattle.ov_db.specs.declared.fault.OpenFault.TheVariants.{SchemaDiffers, BadBody, Broken, TypeChanged, NotConvertible, Keeping}
+use Rattle.ov_stored.specs.declared.fault.OpenFault.{OpenFault}
+use Rattle.ov_stored.specs.declared.fault.OpenFault.TheVariants.{SchemaDiffers, BadBody, Broken, TypeChanged, NotConvertible, Keeping}
 use Rattle.ov_db.specs.declared.resident.Resident.{Resident}
-use Rattle.ov_db.specs.Loading.{IsNotLoaded}
+use Rattle.ov_stored.specs.Loading.{IsNotLoaded}
 use Rattle.ov_db.specs.Opening.{IsFaultAs, IsNotWhole, IsReadFault, IsOpeningRefused, TellsRefusal, open_of, opens_as}
 use Rattle.ov_db.specs.Residing.{IsResident}
-use Rattle.ov_db.proofs.Loads.{cells_held}
+use Rattle.ov_stored.proofs.Loads.{cells_held}
 
 -- ---- by the text that is held
 

@@ -15,11 +15,11 @@ use Rattle.ov_keeper.specs.declared.fault.KeepFault.{KeepFault}
 use Rattle.ov_keeper.specs.declared.fault.KeepFault.TheVariants as keeping
 use Rattle.ov_keeper.specs.declared.keeper.Keeper.{Ghosts}
 use Rattle.ov_keeper.specs.Keeping.{HasFailed, IsCommitFault, IsLoadFault, LeavesMade, LeavesNoMore, LeavesRefused}
-use Rattle.ov_db.specs.declared.fault.OpenFault.{OpenFault}
-use Rattle.ov_db.specs.declared.fault.OpenFault.TheVariants.{SchemaDiffers, Keeping}
+use Rattle.ov_stored.specs.declared.fault.OpenFault.{OpenFault}
+use Rattle.ov_stored.specs.declared.fault.OpenFault.TheVariants.{SchemaDiffers, Keeping}
 use Rattle.ov_db.specs.Opening.{IsOutdated, IsOpeningRefused, IsRenewed, opens_as}
 use Rattle.ov_db.specs.OpensFrom.{OpensFrom, RefusesFrom}
-use Rattle.ov_db.specs.Stored.{KeepsRows}
+use Rattle.ov_stored.specs.Stored.{KeepsRows}
 use Rattle.ov_db.proofs.Answers.{current_stored, keeps_as, kind_as, load_commits, no_device, own_text, reads_only, tells}
 use Rattle.ov_db.proofs.Keeping.{sealed_none}
 

@@ -5,8 +5,8 @@ use Rattle.std.specs.FinMap.{get, entries, entries_sorted, get-entries, get-from
 use Rattle.ov_specs.specs.rows.Changed.{IsAfter}
 use Rattle.ov_specs.specs.rows.Database.{Database, Row}
 use Rattle.ov_specs.specs.rows.Lines.{line_cmp}
-use Rattle.ov_db.specs.Changing.{Delta, applied}
-use Rattle.ov_db.proofs.Places.{or_before, get-applied}
+use Rattle.ov_stored.specs.Changing.{Delta, applied}
+use Rattle.ov_stored.proofs.Places.{or_before, get-applied}
 
 -- what a delta makes of a database is the database after its changes
 pub applied_after : (delta : Delta) (database : Database) → IsAfter (entries delta) database (applied delta database)

@@ -1,28 +1,16 @@
--- What is stored of a database after changes of its rows.
-use Rattle.std.proofs.Common.{◌≡◌, List, [], ◌∷◌, map, Option, Some, None, option_map, refl, ap, subst, ◌∙◌}
+-- What an open may find after a commit.
+use Rattle.std.proofs.Common.{◌≡◌, List, map, Option, Some, None, option_map, refl, subst, ◌∙◌}
 use mathlib.Core.Logic.{inl, inr}
 use Rattle.std.specs.FinMap.{entries}
 use Rattle.ov_specs.specs.conversion.Converted.{stored_of}
-use Rattle.ov_specs.specs.rows.Cells.{CellChange, InCells, Stored, after_cell_change, after_cell_changes, cell_lines_of}
-use Rattle.ov_specs.specs.rows.Database.{Database, Row}
-use Rattle.ov_specs.specs.rows.Lines.{LineKey}
+use Rattle.ov_specs.specs.rows.Cells.{CellChange, InCells, Stored}
+use Rattle.ov_specs.specs.rows.Database.{Database}
 use Rattle.ov_specs.specs.schema.SchemaTypes.{Schema}
 use Rattle.ov_keeper.specs.Keeping.{changed}
 use Rattle.serde_json.specs.Written.{compact_text}
-use Rattle.ov_db.specs.Changing.{Delta, applied, change_of, with_row_change, with_row_changes}
+use Rattle.ov_stored.specs.Changing.{Delta, applied, change_of}
+use Rattle.ov_stored.proofs.Stored.{stores}
 use Rattle.ov_db.specs.Committing.{IsHeld}
-use Rattle.ov_db.proofs.CellMaps.{cell_lines-insert, cell_lines-remove}
-
--- one change of a row, and what it makes of what is stored
-stores_one : (key : LineKey) (o : Option Row) (database : Database) → after_cell_change (change_of (key, o)) (cell_lines_of database) ≡ cell_lines_of (with_row_change key o database)
-stores_one key (Some row) database = cell_lines-insert database key row
-stores_one key None database = cell_lines-remove database key
-
-pub stores : (cs : List (LineKey × Option Row)) (database : Database) → after_cell_changes (map change_of cs) (cell_lines_of database) ≡ cell_lines_of (with_row_changes cs database)
-stores [] database = refl
-stores (c ∷ cs) database = ap (after_cell_changes (map change_of cs)) (stores_one c.0 c.1 database) ∙ stores cs (with_row_change c.0 c.1 database)
-
--- ---- what an open may find
 
 pub found : (schema : Schema) (database : Database) (held : Stored) → IsHeld schema database None held → held ≡ stored_of schema database
 found schema database held is = elim is [

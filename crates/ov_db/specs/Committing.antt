@@ -6,10 +6,10 @@ use Rattle.ov_specs.specs.rows.Cells.{Stored}
 use Rattle.ov_specs.specs.rows.Database.{Database}
 use Rattle.ov_db.specs.declared.answer.StoreAnswer.{StoreAnswer}
 use Rattle.ov_db.specs.declared.answer.StoreAnswer.TheVariants.{Kept, Exhausted, Failed}
-use Rattle.ov_db.specs.Changing.{Delta, applied}
+use Rattle.ov_stored.specs.Changing.{Delta, applied}
 use Rattle.ov_db.specs.KeptDatabase as kept
 use Rattle.ov_db.specs.Opening.{open_of}
-use Rattle.ov_db.specs.Stored.{KeepsRows}
+use Rattle.ov_stored.specs.Stored.{KeepsRows}
 use Rattle.ov_specs.specs.schema.SchemaTypes.{Schema}
 
 -- `Kept`: the changes are made. `Exhausted`: nothing changes. `Failed`: what they would have made is sealed. The keeper may

@@ -5,8 +5,8 @@ use Rattle.ov_schema_text.specs.declared.file_fault.SchemaFileFault.TheVariants 
 use Rattle.ov_conversion.specs.declared.fault.ConversionFault.{ConversionFault}
 use Rattle.ov_conversion.specs.declared.fault.ConversionFault.TheVariants as conversions
 use Rattle.ov_keeper.specs.declared.fault.KeepFault.TheVariants.{Memory}
-use Rattle.ov_db.specs.declared.fault.OpenFault.{OpenFault}
-use Rattle.ov_db.specs.declared.fault.OpenFault.TheVariants.{BadBody, NotConvertible, Keeping}
+use Rattle.ov_stored.specs.declared.fault.OpenFault.{OpenFault}
+use Rattle.ov_stored.specs.declared.fault.OpenFault.TheVariants.{BadBody, NotConvertible, Keeping}
 
 -- the stored text is no schema, unless an allocation failed
 abbrev pub by_text : SchemaFileFault → OpenFault

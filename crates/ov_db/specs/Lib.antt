@@ -1,15 +1,7 @@
-pub mod Changing
-pub mod Placing
-pub mod Adding
-pub mod DeltaModel
 pub mod KeptDatabase
 pub mod Committing
-pub mod CellLists
-pub mod Stored
-pub mod Loading
 pub mod Opening
 pub mod OpensFrom
 pub mod Faults
-pub mod Guessed
 pub mod Residing
 pub mod Lookups

@@ -11,8 +11,8 @@ use Rattle.ov_specs.specs.schema.SchemaTypes.{Schema}
 use Rattle.ov_specs.specs.values.Uuid.{Uuid}
 use Rattle.ov_keeper.specs.declared.fault.KeepFault.TheVariants.{Memory, Device}
 use Rattle.ov_keeper.specs.Keeping.{IsCommitFault, IsLoadFault}
-use Rattle.ov_db.specs.declared.fault.OpenFault.{OpenFault}
-use Rattle.ov_db.specs.declared.fault.OpenFault.TheVariants.{SchemaDiffers, BadBody, Broken, TypeChanged, NotConvertible, Keeping}
+use Rattle.ov_stored.specs.declared.fault.OpenFault.{OpenFault}
+use Rattle.ov_stored.specs.declared.fault.OpenFault.TheVariants.{SchemaDiffers, BadBody, Broken, TypeChanged, NotConvertible, Keeping}
 
 -- What an open without a conversion gives. Another text than the schema's is refused; under the schema's own, `opening_of`
 -- does not look at the version.

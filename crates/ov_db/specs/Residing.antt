@@ -5,9 +5,9 @@ use Rattle.ov_refs.specs.Linking.{AreLinksOf, without_references}
 use Rattle.ov_specs.specs.operations.MatchingRows.{without_rows}
 use Rattle.ov_specs.specs.rows.Database.{Database}
 use Rattle.ov_specs.specs.schema.SchemaTypes.{Schema}
-use Rattle.ov_db.specs.Adding.{lent_keys}
-use Rattle.ov_db.specs.Changing.{Delta, applied}
-use Rattle.ov_db.specs.Placing.{HasPlacesFor, IsSameBeside}
+use Rattle.ov_stored.specs.Adding.{lent_keys}
+use Rattle.ov_stored.specs.Changing.{Delta, applied}
+use Rattle.ov_stored.specs.Placing.{HasPlacesFor, IsSameBeside}
 use Rattle.ov_db.specs.declared.resident.Resident.{Resident}
 use Rattle.ov_db.specs.declared.resident.Room.{Room}
 

@@ -3,18 +3,18 @@ ghost use Rattle.ov_specs.specs.conversion.Converted.{converted, converted_from,
 ghost use Rattle.ov_specs.specs.integrity.Committed.{is_whole};
 ghost use Rattle.ov_specs.specs.rows.Suits.{Suits};
 ghost use Rattle.ov_keeper.specs.Views.{lines_view};
-ghost use Rattle.ov_db.specs.Loading.{IsLoaded};
+ghost use Rattle.ov_stored.specs.Loading.{IsLoaded};
 ghost use Rattle.ov_db.specs.Opening.{IsNotWhole, IsOpeningRefused};
 ghost use Rattle.ov_db.specs.Residing.{IsBeside};
 
-use crate::fault::OpenFault;
-use crate::load::rows_of;
+use crate::fault::{by_conversion, by_text};
 use crate::resident::Resident;
 use ov_conversion::{converted_rows, has_changed_type, is_successor};
 use ov_keeper::Loaded;
 use ov_rows::Rows;
 use ov_schema::Schema;
 use ov_schema_text::schema_of;
+use ov_stored::{OpenFault, rows_of};
 use std::alloc::Global;
 use uuid::Uuid;
 
@@ -22,7 +22,10 @@ use uuid::Uuid;
 fn schema_stored(alloc: Global, text: &[u8]) -> Result<Schema, OpenFault>
     ensures { IsLoaded (λ schema. schema) (schema_stored text.now) result }
 {
-    Ok(schema_of(alloc, text)?)
+    match schema_of(alloc, text) {
+        Ok(schema) => Ok(schema),
+        Err(fault) => Err(by_text(fault)),
+    }
 }
 
 /// The rows, if a commit would leave them as they are.
@@ -59,8 +62,10 @@ fn converted(
     if has_changed_type(old, new) {
         return Err(OpenFault::TypeChanged);
     }
-    let after = converted_rows(alloc, old, new, version, &before)?;
-    Resident::of(alloc, new, after)
+    match converted_rows(alloc, old, new, version, &before) {
+        Ok(after) => Resident::of(alloc, new, after),
+        Err(fault) => Err(by_conversion(fault)),
+    }
 }
 
 /// What was loaded under another text than the schema's, converted.

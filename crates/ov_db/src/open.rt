@@ -13,16 +13,14 @@ ghost use Rattle.ov_keeper.specs.declared.fault.KeepFault.TheVariants.{Device};
 ghost use Rattle.ov_db.specs.Opening.{IsOpeningRefused, opens_as};
 ghost use Rattle.ov_db.specs.OpensFrom.{OpensFrom, RefusesFrom};
 ghost use Rattle.ov_db.specs.Residing.{IsBeside};
-ghost use Rattle.ov_db.specs.Stored.{KeepsRows};
+ghost use Rattle.ov_stored.specs.Stored.{KeepsRows};
 
-use crate::commit::puts_of;
 use crate::convert::loaded_converted;
-use crate::fault::OpenFault;
-use crate::load::{has_text, rows_of};
 use crate::resident::Resident;
 use ov_keeper::{KeepFault, Keeper, Lines, Loaded};
 use ov_rows::Rows;
 use ov_schema::{Schema, text_of};
+use ov_stored::{OpenFault, has_text, puts_of, rows_of};
 use std::alloc::Global;
 use uuid::Uuid;
 

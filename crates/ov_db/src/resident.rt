@@ -1,10 +1,8 @@
-use crate::commit::{make, place, take_out};
-use crate::delta::Delta;
-use crate::fault::OpenFault;
 use ov_index::{IndexChanges, Indexes, is_over_limits};
 use ov_refs::{LinkChanges, Links, are_references_whole};
 use ov_rows::{RowKey, Rows};
 use ov_schema::Schema;
+use ov_stored::{Delta, OpenFault, make_changes, place_rows, take_out_rows};
 use std::alloc::{AllocError, Global};
 
 /// The rows, and two lookups that each commit updates: which rows refer to which, and which rows have which values in an index.
@@ -47,9 +45,9 @@ impl Resident {
     ghost use Rattle.ov_specs.specs.rows.Database.{Database};
     ghost use Rattle.ov_specs.specs.rows.Suits.{Suits};
     ghost use Rattle.ov_specs.specs.schema.SchemaTypes.{Schema};
-    ghost use Rattle.ov_db.specs.Changing.{Delta, applied};
+    ghost use Rattle.ov_stored.specs.Changing.{Delta, applied};
     ghost use Rattle.ov_db.specs.Opening.{IsNotWhole};
-    ghost use Rattle.ov_db.specs.Placing.{HasPlacesFor};
+    ghost use Rattle.ov_stored.specs.Placing.{HasPlacesFor};
     ghost use Rattle.ov_db.specs.Residing.{IsBeside, IsResident, IsNoRoom, IsReady, LeadsBack};
     ghost use Rattle.ov_db.specs.Residing.{LeadsOn};
 
@@ -91,7 +89,7 @@ impl Resident {
             .place(alloc, schema, &self.rows, changes, &mut room.links)?;
         self.indexes
             .place(alloc, schema, &self.rows, changes, &mut room.indexes)?;
-        place(alloc, &mut self.rows, delta, &mut room.added)
+        place_rows(alloc, &mut self.rows, delta, &mut room.added)
     }
 
     /// Removes again what was added to reserve space.
@@ -102,7 +100,7 @@ impl Resident {
     {
         self.links.take_out(room.links.added.as_slice());
         self.indexes.take_out(room.indexes.added.as_slice());
-        take_out(&mut self.rows, room.added);
+        take_out_rows(&mut self.rows, room.added);
     }
 
     /// Removes the references and index entries that the changes remove.
@@ -121,6 +119,6 @@ impl Resident {
         ensures { (schema : Schema) (database : Database) → IsReady schema delta database self.old
             → IsResident schema (applied delta database) self.new }
     {
-        make(alloc, &mut self.rows, delta);
+        make_changes(alloc, &mut self.rows, delta);
     }
 }

@@ -7,8 +7,8 @@ use Rattle.std.specs.FinMap.{get, contains_key, keys, entries, find, get-entries
 use Rattle.std.specs.FinMap.Entries.{is_some-find}
 use Rattle.std.specs.List.{list_any}
 use Rattle.std.specs.Ordering.{eq_by_cmp}
-use Rattle.ov_db.specs.Changing.{Delta, applied}
-use Rattle.ov_db.proofs.Places.{or_before, get-applied}
+use Rattle.ov_stored.specs.Changing.{Delta, applied}
+use Rattle.ov_stored.proofs.Places.{or_before, get-applied}
 use Rattle.ov_refs.specs.Holding.{KeySet, is_holder}
 use Rattle.ov_refs.specs.Linking.{Links, AreLinksOf}
 use Rattle.ov_specs.specs.integrity.Committed.{dangles, is_whole}

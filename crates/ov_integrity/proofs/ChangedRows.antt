@@ -9,8 +9,8 @@ use Rattle.ov_specs.specs.rows.Lines.{LineKey, line_cmp}
 use Rattle.ov_specs.specs.schema.Schema.{is_some_and}
 use Rattle.ov_specs.specs.schema.SchemaTypes.{Schema}
 use Rattle.ov_specs.proofs.laws.LineKeys.{key_total, tied_same, same_key-tied}
-use Rattle.ov_db.specs.Changing.{Delta, applied}
-use Rattle.ov_db.proofs.Places.{find-rest, sorted-rest, or_before, get-applied}
+use Rattle.ov_stored.specs.Changing.{Delta, applied}
+use Rattle.ov_stored.proofs.Places.{find-rest, sorted-rest, or_before, get-applied}
 use Rattle.ov_refs.specs.Holding.{KeySet, Holders, is_holder, with_holder}
 use Rattle.ov_refs.specs.Linking.{Links, is_strong_in, with_target, with_targets}
 use Rattle.ov_refs.proofs.Collecting.{strong-targets}

@@ -3,8 +3,8 @@ use Rattle.std.proofs.Common.{◌≡◌, Option, Some, None, unwrap_or, refl, sy
 use Rattle.std.specs.FinMap.{entries, entries_sorted, get, get-entries, from_sorted, get-from_sorted}
 use Rattle.ov_specs.specs.rows.Database.{Row, Database}
 use Rattle.ov_specs.specs.rows.Lines.{line_cmp}
-use Rattle.ov_db.specs.Changing.{Delta, applied}
-use Rattle.ov_db.proofs.Places.{get-applied, or_before}
+use Rattle.ov_stored.specs.Changing.{Delta, applied}
+use Rattle.ov_stored.proofs.Places.{get-applied, or_before}
 use Rattle.ov_specs.specs.rows.Changed.{IsAfter}
 
 -- the rows that changes make are those after them

@@ -13,7 +13,7 @@ use Rattle.ov_specs.proofs.laws.Committing.{IsWhole, whole_is}
 use Rattle.ov_specs.proofs.laws.Following.{ChangedMisses, HeldMisses, missing_follows, changed_is_missing, held_is_missing}
 use Rattle.ov_specs.proofs.laws.LineKeys.{key_total, key_exact}
 use Rattle.ov_specs.proofs.laws.Lists.{any-map}
-use Rattle.ov_db.specs.Changing.{Delta, applied}
+use Rattle.ov_stored.specs.Changing.{Delta, applied}
 use Rattle.ov_refs.specs.Linking.{Links, AreLinksOf}
 use Rattle.ov_integrity.specs.Missing.{misses_by}
 use Rattle.ov_integrity.proofs.Candidates.{beside, made_is}

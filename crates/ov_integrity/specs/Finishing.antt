@@ -1,7 +1,7 @@
 -- What the end of a transaction results in, in the code as in the definitions.
 use Rattle.std.specs.Prelude.{◌≡◌, ◌==◌, Result, Ok, Err}
 use Rattle.std.specs.FinMap.{len}
-use Rattle.ov_db.specs.Changing.{applied}
+use Rattle.ov_stored.specs.Changing.{applied}
 use Rattle.ov_integrity.specs.declared.finished.Finished.{Finished}
 use Rattle.ov_integrity.specs.declared.finished.Finished.TheVariants.{Changed, Refused, NoMemory}
 use Rattle.ov_specs.specs.operations.Errors.{OpError}

@@ -2,7 +2,7 @@
 use Rattle.std.specs.Prelude.{not, Bool, Option, Some, None}
 use Rattle.std.specs.FinMap.{get, contains_key, keys}
 use Rattle.std.specs.List.{list_any}
-use Rattle.ov_db.specs.Changing.{Delta}
+use Rattle.ov_stored.specs.Changing.{Delta}
 use Rattle.ov_refs.specs.Holding.{Holders}
 use Rattle.ov_specs.specs.integrity.Committed.{is_missing}
 use Rattle.ov_specs.specs.integrity.References.{row_references}

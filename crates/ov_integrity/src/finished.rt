@@ -10,12 +10,12 @@ use crate::limits::breaks_a_limit;
 use crate::missing::misses;
 use crate::prune::prune;
 use crate::support::drop_unsupported;
-use ov_db::Delta;
 use ov_index::Indexes;
 use ov_projection::OpError;
 use ov_refs::Links;
 use ov_schema::Schema;
 use ov_stage::Stage;
+use ov_stored::Delta;
 use std::alloc::{AllocError, Global};
 use uuid::Uuid;
 

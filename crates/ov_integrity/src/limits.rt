@@ -8,12 +8,12 @@ ghost use Rattle.ov_specs.specs.integrity.Limits.{has_too_many, is_over_limits, 
 ghost use Rattle.ov_specs.specs.rows.Suits.{Suits};
 
 use ov_base::Text;
-use ov_db::Delta;
 use ov_index::{Indexes, are_made_alike};
 use ov_projection::is_among;
 use ov_rows::Rows;
 use ov_schema::Schema;
 use ov_stage::Stage;
+use ov_stored::Delta;
 use std::alloc::{AllocError, Global};
 
 /// How many rows the table of this name has.

@@ -6,11 +6,11 @@ ghost use Rattle.ov_integrity.specs.Missing.{is_held_beside, misses_by};
 ghost use Rattle.ov_specs.specs.integrity.Committed.{is_missing, is_whole};
 ghost use Rattle.ov_specs.specs.integrity.References.{references, row_references};
 
-use ov_db::Delta;
 use ov_refs::{KeySet, Links, targets_of};
 use ov_rows::{Row, RowKey};
 use ov_schema::Schema;
 use ov_stage::Stage;
+use ov_stored::Delta;
 use std::alloc::{AllocError, Global};
 
 /// Whether the row of this key refers strongly to a missing row.

@@ -17,11 +17,11 @@ use Rattle.ov_specs.specs.rows.Lines.{LineKey, line_cmp}
 use Rattle.ov_specs.specs.values.Uuid.{Uuid}
 use Rattle.ov_specs.proofs.laws.LineKeys.{key_exact, same_tied, tied_same}
 use Rattle.ov_specs.proofs.laws.Truths.{left_holds, right_holds, not_tied}
-use Rattle.ov_db.proofs.Same.{text-same}
+use Rattle.ov_stored.proofs.Same.{text-same}
 use Rattle.ov_rows.specs.Nested.{TableRows, id_cmp, in_table, rows_in}
 use Rattle.ov_rows.proofs.Nesting.{within}
-use Rattle.ov_db.specs.Changing.{Delta, applied}
-use Rattle.ov_db.proofs.Places.{get-applied, or_before}
+use Rattle.ov_stored.specs.Changing.{Delta, applied}
+use Rattle.ov_stored.proofs.Places.{get-applied, or_before}
 use Rattle.ov_rows.specs.Lending.{lent_row, lent_row_of}
 use Rattle.ov_rows.specs.declared.row_view.RowView.{RowView}
 use Rattle.ov_stage.specs.Staging.{AreOnlyOf, entry_if_found}

@@ -12,12 +12,12 @@ use Rattle.std.specs.Str.{bytes_eq}
 use Rattle.ov_specs.specs.values.Uuid.{Uuid}
 use Rattle.ov_specs.proofs.laws.LineKeys.{key_exact, key_total}
 use Rattle.ov_specs.proofs.laws.Names.{name_cmp_total, name_exact}
-use Rattle.ov_db.specs.Changing.{Delta, applied, with_row_change, with_row_changes}
-use Rattle.ov_db.specs.DeltaModel.{delta_of}
+use Rattle.ov_stored.specs.Changing.{Delta, applied, with_row_change, with_row_changes}
+use Rattle.ov_stored.specs.DeltaModel.{delta_of}
 use Rattle.ov_rows.specs.Nested.{id_cmp}
 use Rattle.ov_rows.specs.Resident.{database_of}
 use Rattle.ov_rows.proofs.Nesting.{within}
-use Rattle.ov_db.proofs.Places.{Changes, get-applied, or_before}
+use Rattle.ov_stored.proofs.Places.{Changes, get-applied, or_before}
 use Rattle.ov_stage.specs.Asked.{rows_after}
 use Rattle.ov_stage.specs.Staging.{row_made, place, place_each}
 use Rattle.ov_projection.proofs.Equal.{drop-at, map-push}

@@ -16,9 +16,9 @@ use Rattle.ov_specs.specs.values.Uuid.{Uuid}
 use Rattle.ov_specs.proofs.laws.LineKeys.{key_exact, key_total, tied_same}
 use Rattle.ov_specs.proofs.laws.Names.{name_exact}
 use Rattle.ov_specs.proofs.laws.Truths.{both_hold, left_holds, right_holds, equal_is, not_tied}
-use Rattle.ov_db.proofs.Same.{text-same}
-use Rattle.ov_db.specs.Changing.{Delta, applied, with_row_changes}
-use Rattle.ov_db.proofs.Places.{get-applied, or_before}
+use Rattle.ov_stored.proofs.Same.{text-same}
+use Rattle.ov_stored.specs.Changing.{Delta, applied, with_row_changes}
+use Rattle.ov_stored.proofs.Places.{get-applied, or_before}
 use Rattle.ov_specs.specs.values.Value.{marked}
 use Rattle.ov_rows.specs.Lending.{lent_row_of}
 use Rattle.ov_rows.specs.Nested.{TableRows, id_cmp, rows_in}

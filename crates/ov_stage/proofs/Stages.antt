@@ -10,10 +10,10 @@ use Rattle.ov_specs.specs.rows.Version.{row_now, version_over}
 use Rattle.ov_specs.specs.values.Uuid.{Uuid}
 use Rattle.ov_specs.proofs.laws.LineKeys.{key_exact, key_total, tied_same}
 use Rattle.ov_specs.proofs.laws.Sameness.{columns-same, row_now-former}
-use Rattle.ov_db.specs.Changing.{Delta, applied, with_row_change}
-use Rattle.ov_db.proofs.Added.{same}
-use Rattle.ov_db.proofs.Places.{at_one, get-applied, or_before}
-use Rattle.ov_db.proofs.Same.{database-same}
+use Rattle.ov_stored.specs.Changing.{Delta, applied, with_row_change}
+use Rattle.ov_stored.proofs.Added.{same}
+use Rattle.ov_stored.proofs.Places.{at_one, get-applied, or_before}
+use Rattle.ov_stored.proofs.Same.{database-same}
 use Rattle.ov_stage.specs.Staging.{Differs, has_columns}
 use Rattle.ov_projection.proofs.SameRows.{columns-is, database-is}
 

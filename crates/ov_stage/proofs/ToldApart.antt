@@ -17,7 +17,7 @@ use Rattle.ov_specs.specs.schema.SchemaTypes.{Schema, Table, name_cmp}
 use Rattle.ov_specs.specs.values.Value.{Datum}
 use Rattle.ov_specs.proofs.laws.Monitoring.{is_same_value-itself}
 use Rattle.ov_specs.proofs.laws.Names.{name_cmp_total, name_exact}
-use Rattle.ov_db.proofs.Same.{text-same}
+use Rattle.ov_stored.proofs.Same.{text-same}
 use Rattle.ov_index.specs.Changing.{are_any_alike}
 use Rattle.ov_index.proofs.MapEntries.{contradicts, entry_is_any, some_and_is}
 use Rattle.ov_stage.specs.Apart.{AreToldApart, has_any_index, has_column, has_index}

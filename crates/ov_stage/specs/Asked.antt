@@ -4,7 +4,7 @@ use Rattle.std.specs.FinMap.{get, entries, is_sorted}
 use Rattle.std.specs.List.{filter, flat_map, list_any}
 use Rattle.std.specs.Ordering.{eq_by_cmp}
 use Rattle.std.specs.Str.{bytes_eq}
-use Rattle.ov_db.specs.Changing.{Delta, with_row_changes}
+use Rattle.ov_stored.specs.Changing.{Delta, with_row_changes}
 use Rattle.ov_index.specs.Changing.{are_any_alike}
 use Rattle.ov_index.specs.IndexKeys.{values_in}
 use Rattle.ov_index.specs.Indexing.{AreIndexesOf}

@@ -5,7 +5,7 @@ use Rattle.std.specs.Ordering.{eq_by_cmp}
 use Rattle.std.specs.Coded.{Coded, code_by, coded×}
 use Rattle.std.specs.FinMap.{get, entries, put}
 use Rattle.std.specs.FinMap.Entries.{where_key}
-use Rattle.ov_db.specs.Changing.{Delta}
+use Rattle.ov_stored.specs.Changing.{Delta}
 use Rattle.ov_rows.specs.Lending.{lent_row_of}
 use Rattle.ov_rows.specs.Resident.{database_code}
 use Rattle.ov_rows.specs.declared.row_view.RowView.{RowView}

@@ -1,13 +1,13 @@
 ghost use Rattle.std.specs.Prelude.{◌≡◌, map, option_map, option_to_list, IfOk};
 ghost use Rattle.std.specs.FinMap.{get};
 ghost use Rattle.std.specs.List.{flat_map};
-ghost use Rattle.ov_db.specs.Changing.{applied};
+ghost use Rattle.ov_stored.specs.Changing.{applied};
 ghost use Rattle.ov_rows.specs.Lending.{lent_row, lent_row_of};
 ghost use Rattle.ov_stage.specs.Asked.{rows_of_ids};
 ghost use Rattle.ov_stage.specs.Staging.{entry_if_found};
 
-use ov_db::Delta;
 use ov_rows::{Row, RowId, RowKey, RowView, Rows, TableRows};
+use ov_stored::Delta;
 use std::alloc::{AllocError, Global};
 use uuid::Uuid;
 

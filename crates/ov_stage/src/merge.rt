@@ -8,8 +8,8 @@ ghost use Rattle.ov_specs.specs.rows.Lines.{line_cmp};
 ghost use Rattle.ov_stage.specs.Asked.{changes_of, rows_after};
 ghost use Rattle.ov_stage.specs.Staging.{row_made, place_each};
 
-use ov_db::Delta;
 use ov_rows::{Row, RowView, Rows, TableRows};
+use ov_stored::Delta;
 use std::alloc::{AllocError, Global};
 use std::cmp::Ordering;
 use uuid::Uuid;

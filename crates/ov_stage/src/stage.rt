@@ -2,7 +2,7 @@ ghost use Rattle.std.specs.Prelude.{◌≡◌, ◌==◌, List, map, option_copie
 ghost use Rattle.std.specs.Prelude.{false, IfOk, IfSome, OnOk, OnErr};
 ghost use Rattle.std.specs.List.{filter};
 ghost use Rattle.std.specs.FinMap.{contains_key, get, insert, remove, entries, len};
-ghost use Rattle.ov_db.specs.Changing.{applied};
+ghost use Rattle.ov_stored.specs.Changing.{applied};
 ghost use Rattle.ov_index.specs.Changing.{are_any_alike};
 ghost use Rattle.ov_index.specs.Indexing.{AreIndexesOf};
 ghost use Rattle.ov_rows.specs.Lending.{lent_row_of};
@@ -22,11 +22,11 @@ use crate::lookup::{row_after, rows_of_ids};
 use crate::merge::{rows_after, rows_of};
 use ov_base::Text;
 use ov_conds::Condition;
-use ov_db::Delta;
 use ov_index::Indexes;
 use ov_projection::is_among;
 use ov_rows::{Columns, Row, RowKey, RowView, Rows};
 use ov_schema::Schema;
+use ov_stored::Delta;
 use std::alloc::{AllocError, Global};
 use std::marker::Model;
 use uuid::Uuid;
@@ -41,7 +41,7 @@ pub struct Stage<'a> {
 }
 
 impl<'a> Model for Stage<'a> {
-    ghost use Rattle.ov_db.specs.Changing.{applied};
+    ghost use Rattle.ov_stored.specs.Changing.{applied};
     ghost use Rattle.ov_stage.specs.Asked.{AreIndexesIf};
     ghost use Rattle.ov_stage.specs.Staging.{Differs, Stage, stage_code};
 

@@ -2,7 +2,7 @@
 use Rattle.std.proofs.Common.{◌≡◌, ℕ, List, Result, Err, refl, sym, ap, subst, ◌∙◌}
 use Rattle.std.specs.FinMap.{empty}
 use Rattle.serde_json.specs.Data.{Items}
-use Rattle.ov_db.specs.Changing.{Delta, applied}
+use Rattle.ov_stored.specs.Changing.{Delta, applied}
 use Rattle.ov_integrity.specs.Finishing.{IsFinished}
 use Rattle.ov_integrity.specs.declared.finished.Finished.TheVariants.{Changed}
 use Rattle.ov_specs.specs.integrity.Committed.{committed}

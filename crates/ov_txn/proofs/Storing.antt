@@ -2,7 +2,7 @@
 use Rattle.std.proofs.Common.{◌≡◌, Option, Some, None, false, refl, inl, inr}
 use Rattle.std.specs.Prelude.{is_some}
 use Rattle.serde_json.specs.Data.{Items}
-use Rattle.ov_db.specs.Changing.{Delta, applied}
+use Rattle.ov_stored.specs.Changing.{Delta, applied}
 use Rattle.ov_specs.specs.operations.Transaction.{TransactionOutcome, Completes}
 use Rattle.ov_specs.specs.rows.Database.{Database, same_database}
 use Rattle.ov_txn.specs.Attempting.{Readies, AttemptState, IsTried, IsTriedInStore}

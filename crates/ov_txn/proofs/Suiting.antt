@@ -13,8 +13,8 @@ use Rattle.ov_specs.specs.schema.SchemaTypes.{Schema}
 use Rattle.ov_specs.specs.values.Uuid.{Uuid, is_uuid}
 use Rattle.ov_specs.proofs.laws.OutcomeSuiting.{SuitsTransaction, transaction_suits}
 use Rattle.ov_specs.proofs.laws.StepWhole.{WholeTransaction, transaction_whole}
-use Rattle.ov_db.specs.Changing.{Delta, applied, SuitsChanges}
-use Rattle.ov_db.proofs.Places.{or_before, get-applied}
+use Rattle.ov_stored.specs.Changing.{Delta, applied, SuitsChanges}
+use Rattle.ov_stored.proofs.Places.{or_before, get-applied}
 use Rattle.ov_txn.specs.Performing.{IsPerformed, SuitsPerformed, WholePerformed}
 use Rattle.ov_txn.specs.declared.perform.Performed.{Performed}
 use Rattle.ov_txn.specs.declared.perform.Performed.TheVariants.{Completed, Blocked}

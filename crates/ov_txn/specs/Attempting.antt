@@ -1,7 +1,7 @@
 -- The result of an attempt of a transaction.
 use Rattle.std.specs.Prelude.{◌≡◌, ◌⊎◌, ℕ, Bool, true, false, is_some, None}
 use Rattle.serde_json.specs.Data.{Items}
-use Rattle.ov_db.specs.Changing.{Delta, applied}
+use Rattle.ov_stored.specs.Changing.{Delta, applied}
 use Rattle.ov_db.specs.Committing.{Commits}
 use Rattle.ov_db.specs.KeptDatabase.{KeptDatabase}
 use Rattle.ov_db.specs.declared.answer.StoreAnswer.TheVariants as store

@@ -1,7 +1,7 @@
 -- What performing a transaction results in, in the code as in the definitions.
 use Rattle.std.specs.Prelude.{◌≡◌, ◌==◌, true}
 use Rattle.std.specs.FinMap.{len}
-use Rattle.ov_db.specs.Changing.{applied, SuitsChanges}
+use Rattle.ov_stored.specs.Changing.{applied, SuitsChanges}
 use Rattle.ov_specs.specs.integrity.Committed.{is_whole}
 use Rattle.ov_specs.specs.operations.Transaction.{TransactionOutcome, Completes, Waits}
 use Rattle.ov_specs.specs.rows.Database.{Database, same_database}

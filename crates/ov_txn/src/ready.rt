@@ -1,5 +1,5 @@
 ghost use Rattle.std.specs.Prelude.{◌≡◌, Bool, IfOk};
-ghost use Rattle.ov_db.specs.Changing.{Delta as Changes};
+ghost use Rattle.ov_stored.specs.Changing.{Delta as Changes};
 ghost use Rattle.ov_db.specs.KeptDatabase.{KeptDatabase};
 ghost use Rattle.ov_txn.specs.Replying.{replies_with};
 ghost use Rattle.ov_txn.specs.declared.ready.Replies.{Replies as Prepared};

@@ -1,7 +1,7 @@
 ghost use Rattle.std.specs.Prelude.{◌≡◌, ◌≤◌, ◌+◌, true, None, IfOk};
 ghost use Rattle.ov_specs.specs.integrity.Committed.{is_whole};
 ghost use Rattle.ov_specs.specs.operations.Transaction.{failed_results, transaction};
-ghost use Rattle.ov_db.specs.Changing.{SuitsChanges, applied};
+ghost use Rattle.ov_stored.specs.Changing.{SuitsChanges, applied};
 ghost use Rattle.ov_txn.specs.Attempting.{IsTried, IsTriedInStore, IsSealedAnswer, HasCause};
 
 use crate::perform::{Performed, perform};

@@ -3,8 +3,8 @@ use Rattle.std.proofs.Common.{◌≡◌, [], ◌∷◌, cond, T, Option, Some, N
 use Rattle.std.specs.FinMap.{get, get-entries, find, is_sorted, entries, entries_sorted}
 use Rattle.std.specs.List.{filter_map, cons_option}
 use Rattle.std.specs.Str.{bytes_eq}
-use Rattle.ov_db.specs.Changing.{Delta, applied}
-use Rattle.ov_db.proofs.Places.{Changes, or_before, get-applied, found-first, found-later}
+use Rattle.ov_stored.specs.Changing.{Delta, applied}
+use Rattle.ov_stored.proofs.Places.{Changes, or_before, get-applied, found-first, found-later}
 use Rattle.ov_specs.specs.monitors.Requests.{MonitoredTable}
 use Rattle.ov_specs.specs.monitors.Updates.{row_update, under_id, updated_rows}
 use Rattle.ov_specs.specs.rows.Database.{Row, Database}

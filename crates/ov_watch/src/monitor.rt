@@ -1,7 +1,7 @@
 ghost use Rattle.std.specs.Prelude.{◌≡◌, List, ℕ, IfOk, OnOk, option_map, string_bytes};
 ghost use Rattle.std.specs.Option.{option_to_list};
 ghost use Rattle.serde_json.specs.Data.{Data, no_members, item, no_items};
-ghost use Rattle.ov_db.specs.Changing.{applied};
+ghost use Rattle.ov_stored.specs.Changing.{applied};
 ghost use Rattle.ov_specs.specs.monitors.Updates as spec;
 ghost use Rattle.ov_specs.specs.rows.Database.{placed};
 ghost use Rattle.ov_specs.specs.wire.Frame.{frame};

@@ -1,7 +1,7 @@
 ghost use Rattle.std.specs.Prelude.{◌≡◌, [], IfOk, OnErr, map, option_map};
 ghost use Rattle.std.specs.List.{find};
 ghost use Rattle.serde_json.specs.View.{view};
-ghost use Rattle.ov_db.specs.Changing.{applied};
+ghost use Rattle.ov_stored.specs.Changing.{applied};
 ghost use Rattle.ov_specs.specs.monitors.Monitors as spec;
 ghost use Rattle.ov_specs.specs.monitors.Updates.{initial, all_updates};
 ghost use Rattle.ov_watch.specs.Views.{IsWatchResult};

@@ -2,7 +2,7 @@ ghost use Rattle.std.specs.Prelude.{◌≡◌, IfOk, OnOk};
 ghost use Rattle.std.specs.Option.{option_to_list};
 ghost use Rattle.serde_json.specs.Data.{no_members, put};
 ghost use Rattle.uuid.specs.Text.{hyphenated_text, lower};
-ghost use Rattle.ov_db.specs.Changing.{applied};
+ghost use Rattle.ov_stored.specs.Changing.{applied};
 ghost use Rattle.ov_specs.specs.monitors.Updates as spec;
 ghost use Rattle.ov_specs.specs.rows.Database.{placed};
 ghost use Rattle.ov_watch.specs.Telling.{told_at_first, told_change};

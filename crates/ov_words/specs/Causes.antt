@@ -7,8 +7,8 @@ use Rattle.ov_schema_text.specs.declared.file_fault.SchemaFileFault.{SchemaFileF
 use Rattle.ov_schema_text.specs.declared.file_fault.SchemaFileFault.TheVariants as schemas
 use Rattle.ov_keeper.specs.declared.fault.KeepFault.{KeepFault}
 use Rattle.ov_keeper.specs.declared.fault.KeepFault.TheVariants as keeping
-use Rattle.ov_db.specs.declared.fault.OpenFault.{OpenFault}
-use Rattle.ov_db.specs.declared.fault.OpenFault.TheVariants as opening
+use Rattle.ov_stored.specs.declared.fault.OpenFault.{OpenFault}
+use Rattle.ov_stored.specs.declared.fault.OpenFault.TheVariants as opening
 use Rattle.ov_history.specs.declared.event.Cause.{Cause}
 use Rattle.ov_history.specs.declared.event.Cause.TheVariants as causes
 use Rattle.ov_history.specs.declared.event.StepFault.{StepFault}

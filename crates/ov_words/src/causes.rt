@@ -6,10 +6,10 @@ ghost use Rattle.ov_words.specs.Causes.{by_cause};
 
 use crate::ending::Ending;
 use crate::fault::WordFault;
-use ov_db::OpenFault;
 use ov_history::{Cause, StepFault};
 use ov_keeper::KeepFault;
 use ov_schema_text::SchemaFileFault;
+use ov_stored::OpenFault;
 
 /// How the program ends if the arguments give no settings.
 pub fn ending_of_words(fault: WordFault) -> Ending

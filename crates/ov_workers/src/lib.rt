@@ -1,6 +1,6 @@
-//! What the workers of the server do, without a thread. A reader brings the desk the messages of a stream and last an end mark;
-//! a writer writes the frames that the desk sends it; and a worker that accepts connections brings the desk the links that a
-//! listener gives. `ov_threads` starts each in a thread of its own.
+//! What the workers of the server do. A reader brings the desk the messages of a stream and last an end mark; a writer writes the
+//! frames that the desk sends it; and a worker that accepts connections brings the desk the links that a listener gives.
+//! `ov_threads` starts each in a thread of its own.
 //!
 //! This crate knows of no session, no machine and no database. It cuts a stream into messages and reports its end by a
 //! cause; the crates above say what a message asks for, and what a frame answers.

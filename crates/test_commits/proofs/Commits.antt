@@ -13,10 +13,10 @@ use Rattle.ov_specs.proofs.laws.Committing.{committed_suits, committed_whole}
 use Rattle.ov_specs.proofs.laws.FoundRows.{row_suits}
 use Rattle.ov_specs.proofs.laws.MixedPairs.{accepted_is_not_mixed}
 use Rattle.ov_specs.proofs.laws.Suiting.{one_row_suits}
-use Rattle.ov_db.specs.Changing.{Delta, applied, SuitsChanges}
-use Rattle.ov_db.specs.Stored.{RowBody, row_stored}
-use Rattle.ov_db.proofs.Places.{or_before, get-applied}
-use Rattle.ov_db.proofs.StoredSuits.{stored_row_suits}
+use Rattle.ov_stored.specs.Changing.{Delta, applied, SuitsChanges}
+use Rattle.ov_stored.specs.Stored.{RowBody, row_stored}
+use Rattle.ov_stored.proofs.Places.{or_before, get-applied}
+use Rattle.ov_stored.proofs.StoredSuits.{stored_row_suits}
 
 -- a row that is stored is put
 pub put_suits : (schema : Schema) (before : Database) (key : LineKey) (stored : RowBody) (row : Row) → Suits schema before → is_uuid key.1 ≡ true → is_uuid stored.0 ≡ true → row_stored schema key stored ≡ Some row

@@ -1,5 +1,5 @@
 ghost use Rattle.std.specs.Prelude.{◌≡◌, true, IfOk};
-ghost use Rattle.ov_db.specs.Changing.{SuitsChanges, applied};
+ghost use Rattle.ov_stored.specs.Changing.{SuitsChanges, applied};
 ghost use Rattle.ov_specs.specs.integrity.Committed.{is_whole};
 ghost use Rattle.ov_specs.specs.rows.Suits.{Suits};
 ghost use Rattle.ov_specs.specs.values.Uuid.{is_uuid};

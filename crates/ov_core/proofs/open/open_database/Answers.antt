@@ -1,7 +1,7 @@
 use Rattle.std.proofs.Common.{rules, ◌≡◌, ◌≢◌, None, refl, subst, sym}
 use Rattle.std.proofs.lemmas.Result.{IfOk-weaker, IfErr-weaker}
 use Rattle.ov_specs.specs.schema.SchemaTypes.{Schema}
-use Rattle.ov_db.specs.declared.fault.OpenFault.TheVariants.{SchemaDiffers}
+use Rattle.ov_stored.specs.declared.fault.OpenFault.TheVariants.{SchemaDiffers}
 use Rattle.ov_core.specs.Opening.{FindsAnother, OpensDatabase, RefusesCore}
 use Rattle.ov_core.proofs.Opening.{finds_another, looked_at, opens_before, refuses_before}
 use Rattle.ov_core.proofs.open.open_database.Goals as goal

@@ -7,5 +7,5 @@ use Rattle.ov_db.proofs.convert.converted.Goals as goal
 pub converted_rows-requires-clause-suits : goal.converted_rows-requires-clause-suits
 converted_rows-requires-clause-suits c = subst (λ (rows : Database). Suits c.args.old.now rows) (sym c.in_ok-before.ensures.same) c.requires
 
-pub returns-clause-suits : goal.returns-clause-suits
-returns-clause-suits c = IfOk-weaker c.of.result _ _ (λ resident is. subst (λ (rows : Database). Suits c.args.new.now rows) (sym is.0) c.in_ok-after.ensures.suits) c.of.ensures.resident
+pub returns-in-Ok-clause-suits : goal.returns-in-Ok-clause-suits
+returns-in-Ok-clause-suits c = IfOk-weaker c.of.result _ _ (λ resident is. subst (λ (rows : Database). Suits c.args.new.now rows) (sym is.0) c.in-Ok.ensures.suits) c.of.ensures.resident

@@ -3,7 +3,7 @@ use Rattle.std.specs.Prelude.{IfErr, OnOk}
 use Rattle.ov_specs.specs.rows.Cells.{Stored}
 use Rattle.ov_keeper.specs.Keeping.{LeavesMade, LeavesRefused}
 use Rattle.ov_keeper.specs.Views.{changes_view}
-use Rattle.ov_db.proofs.Putting.{puts_kept, puts_stored}
+use Rattle.ov_stored.proofs.Putting.{puts_kept, puts_stored}
 use Rattle.ov_db.proofs.Residing.{so_if_ok}
 use Rattle.ov_db.proofs.open.write_rows.Goals as goal
 

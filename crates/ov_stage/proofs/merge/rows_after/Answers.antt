@@ -1,10 +1,10 @@
 use Rattle.std.proofs.Common.{T, map, sym, ap, subst, ◌∙◌}
 use Rattle.std.proofs.lemmas.Result.{IfOk-weaker}
 use Rattle.std.specs.FinMap.{entries, is_sorted, len}
-use Rattle.ov_db.specs.Changing.{with_row_changes}
+use Rattle.ov_stored.specs.Changing.{with_row_changes}
 use Rattle.ov_rows.specs.Lending.{lent_row, lent_row_of}
 use Rattle.ov_rows.specs.Resident.{database_of}
-use Rattle.ov_db.proofs.Places.{Changes}
+use Rattle.ov_stored.proofs.Places.{Changes}
 use Rattle.ov_specs.specs.rows.Lines.{line_cmp}
 use Rattle.ov_stage.specs.Asked.{changes_of}
 use Rattle.ov_stage.proofs.Merging.{Entries, after-none, keyed, keyed-map, ids_sorted, merged_is, its_changes_sorted}

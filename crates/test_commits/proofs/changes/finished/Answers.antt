@@ -1,5 +1,5 @@
 use Rattle.std.proofs.Common.{◌≡◌, Ok, sym, subst}
-use Rattle.ov_db.specs.Changing.{applied}
+use Rattle.ov_stored.specs.Changing.{applied}
 use Rattle.ov_specs.specs.integrity.Committed.{committed}
 use Rattle.ov_specs.specs.rows.Database.{Database}
 use Rattle.ov_specs.specs.rows.Suits.{Suits}

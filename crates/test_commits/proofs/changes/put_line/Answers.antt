@@ -1,7 +1,7 @@
 use Rattle.std.proofs.Common.{◌≡◌, Some, sym, ap, subst, ◌∙◌}
 use Rattle.std.specs.FinMap.{insert}
-use Rattle.ov_db.specs.Loading.{whole_entry}
-use Rattle.ov_db.specs.Stored.{row_stored}
+use Rattle.ov_stored.specs.Loading.{whole_entry}
+use Rattle.ov_stored.specs.Stored.{row_stored}
 use Rattle.ov_specs.specs.rows.Database.{Database, Row, Columns}
 use Rattle.ov_specs.specs.rows.Lines.{LineKey}
 use Rattle.ov_specs.specs.rows.Suits.{Suits}

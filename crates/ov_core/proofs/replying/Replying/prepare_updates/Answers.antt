@@ -1,5 +1,5 @@
 use Rattle.std.proofs.Common.{◌∙◌, ap, true, false}
-use Rattle.ov_db.specs.Changing.{applied}
+use Rattle.ov_stored.specs.Changing.{applied}
 use Rattle.ov_core.specs.declared.replying.Audience.{Audience}
 use Rattle.ov_core.specs.declared.replying.Replying.{Replying}
 use Rattle.ov_core.proofs.Preparings.{session_then, session_refused, no_sessions, sent_to}

@@ -1,5 +1,5 @@
 use Rattle.std.proofs.Common.{◌≡◌, Bool}
-use Rattle.ov_db.specs.Changing.{applied}
+use Rattle.ov_stored.specs.Changing.{applied}
 use Rattle.ov_core.specs.Preparing.{PreparesMore, updates_to}
 use Rattle.ov_core.specs.declared.replying.Replying.{Replying}
 use Rattle.ov_core.proofs.replying.Replying.prepare_updates.Given as goal

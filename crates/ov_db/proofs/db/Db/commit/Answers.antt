@@ -1,6 +1,6 @@
 use Rattle.std.proofs.Common.{sym, ap}
 use Rattle.ov_specs.specs.rows.Database.{Database}
-use Rattle.ov_db.proofs.Places.{applied-none}
+use Rattle.ov_stored.proofs.Places.{applied-none}
 use Rattle.ov_db.proofs.db.Db.commit.Goals as goal
 
 pub returns-then-is_empty-clause-commits : goal.returns-then-is_empty-clause-commits

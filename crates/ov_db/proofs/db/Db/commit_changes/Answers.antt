@@ -5,10 +5,11 @@ use Rattle.ov_specs.specs.integrity.Committed.{is_whole}
 use Rattle.ov_specs.specs.rows.Database.{Database}
 use Rattle.ov_keeper.specs.Keeping.{LeavesRefused, changed}
 use Rattle.ov_keeper.specs.Views.{changes_view}
-use Rattle.ov_db.specs.Changing.{applied, SuitsChanges}
+use Rattle.ov_stored.specs.Changing.{applied, SuitsChanges}
 use Rattle.ov_db.specs.Committing.{AreKept}
 use Rattle.ov_specs.specs.schema.SchemaTypes.{Schema}
-use Rattle.ov_db.proofs.Keeping.{changes_kept, sealed_none, sealed_some}
+use Rattle.ov_stored.proofs.Keeping.{changes_kept}
+use Rattle.ov_db.proofs.Keeping.{sealed_none, sealed_some}
 use Rattle.ov_db.specs.KeptDatabase.{KeptDatabase}
 use Rattle.ov_db.specs.Residing.{IsBeside}
 use Rattle.ov_db.proofs.Stored.{found, found_changed, unsealed_held, still_none}

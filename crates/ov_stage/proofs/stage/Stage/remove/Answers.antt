@@ -1,7 +1,7 @@
 use Rattle.std.proofs.Common.{◌≡◌, None, sym, ap, subst, ◌∙◌}
 use Rattle.std.specs.FinMap.{get, remove}
-use Rattle.ov_db.specs.Changing.{Delta, applied}
-use Rattle.ov_db.proofs.Added.{absent}
+use Rattle.ov_stored.specs.Changing.{Delta, applied}
+use Rattle.ov_stored.proofs.Added.{absent}
 use Rattle.ov_specs.specs.rows.Database.{Database}
 use Rattle.ov_stage.specs.Staging.{Differs, Stage}
 use Rattle.ov_stage.proofs.Stages.{applied-insert, applied-remove, differs-insert, differs-remove, removed_differs}

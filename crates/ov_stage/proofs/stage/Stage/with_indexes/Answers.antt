@@ -1,5 +1,5 @@
 use Rattle.std.proofs.Common.{sym, ap, subst, ◌∙◌}
-use Rattle.ov_db.specs.Changing.{Delta, applied}
+use Rattle.ov_stored.specs.Changing.{Delta, applied}
 use Rattle.ov_specs.specs.rows.Database.{Database}
 use Rattle.ov_stage.specs.Staging.{Differs, Stage}
 use Rattle.ov_stage.proofs.Stages.{applied-empty, differs-empty}

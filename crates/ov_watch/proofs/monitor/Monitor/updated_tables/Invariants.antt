@@ -1,7 +1,7 @@
 use Rattle.std.proofs.Common.{◌≡◌, drop}
 use Rattle.std.specs.List.{filter_map}
 use Rattle.serde_json.specs.Data.{no_members}
-use Rattle.ov_db.specs.Changing.{applied}
+use Rattle.ov_stored.specs.Changing.{applied}
 use Rattle.ov_specs.specs.monitors.Updates as spec
 use Rattle.ov_specs.specs.rows.Database.{placed}
 use Rattle.ov_watch.proofs.monitor.Monitor.updated_tables.Given as goal

@@ -1,5 +1,5 @@
 use Rattle.std.proofs.Common.{sym, ap, ◌∙◌}
-use Rattle.ov_db.specs.Changing.{applied}
+use Rattle.ov_stored.specs.Changing.{applied}
 use Rattle.ov_specs.specs.monitors.Updates as spec
 use Rattle.ov_watch.specs.Views.{has_no_members}
 use Rattle.ov_watch.proofs.Placing.{none_placed}

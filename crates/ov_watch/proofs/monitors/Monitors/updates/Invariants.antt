@@ -1,5 +1,5 @@
 use Rattle.std.proofs.Common.{◌≡◌, ◌++◌}
-use Rattle.ov_db.specs.Changing.{applied}
+use Rattle.ov_stored.specs.Changing.{applied}
 use Rattle.ov_specs.specs.monitors.Updates.{all_updates}
 use Rattle.ov_watch.proofs.monitors.Monitors.updates.Given as goal
 

@@ -1,7 +1,0 @@
-use Rattle.std.proofs.Common.{◌≡◌, drop}
-use Rattle.ov_db.specs.Guessed.{are_values_for}
-use Rattle.ov_db.proofs.Guessed.{are_rest_for}
-use Rattle.ov_db.proofs.read.are_values_for.Given as goal
-
-abbrev pub invariant-loop-name : goal.invariant-loop-name
-invariant-loop-name l = are_values_for l.table l.fn.values ≡ are_rest_for (drop l.name-index l.name-items) l.rest

@@ -1,0 +1,14 @@
+pub mod Added
+pub mod Places
+pub mod Same
+pub mod Stored
+pub mod Loads
+pub mod ReadsBack
+pub mod StoredSuits
+pub mod Keeping
+pub mod Guessed
+pub mod Putting
+pub mod CellMaps
+pub mod CellTexts
+pub mod WrittenCells
+pub mod BodyRows

@@ -1,0 +1,13 @@
+use Rattle.std.proofs.Common.{ℕ, List, sym, ap, ◌∙◌}
+use Rattle.std.specs.FinMap.{empty}
+use Rattle.ov_specs.specs.rows.Held.{Body, OfCells}
+use Rattle.ov_specs.specs.schema.SchemaTypes.{Column}
+use Rattle.ov_keeper.specs.Views.{cells_view}
+use Rattle.ov_stored.proofs.BodyRows.{added_by, columns_added}
+use Rattle.ov_stored.proofs.read_cells.values_in_cells.Goals as goal
+
+pub loop-name-init : goal.loop-name-init
+loop-name-init c =
+    let body : Body = OfCells (cells_view c.args.cells.now) in
+    columns_added body c.args.table.now ∙ ap (λ (cs : List (List ℕ × Column)). added_by body cs empty) (sym c.columns-name-items.ensures)
+    ∙ ap (added_by body c.columns-name-items.result.now) (sym c.new-values.ensures)
