@@ -21,7 +21,7 @@ use Rattle.ov_specs.proofs.laws.Committing.{whole_is}
 use Rattle.ov_specs.proofs.laws.Following.{HasGoneTarget, dangles_follows}
 use Rattle.ov_specs.proofs.laws.LineKeys.{tied_same, same_key-itself, same_key-tied}
 use Rattle.ov_integrity.specs.Pruning.{MayDangle, keys_held, may_dangle_by}
-use Rattle.ov_integrity.proofs.Keys.{none_is}
+use Rattle.ov_support.proofs.Keys.{none_is}
 
 -- what is found at a key has its share in the whole
 any_at_entry : (f : LineKey × Option Row → List LineKey) (test : LineKey → Bool) (key : LineKey) (change : Option Row) (es : List (LineKey × Option Row)) → find line_cmp key es ≡ Some change

@@ -17,9 +17,9 @@ use Rattle.ov_stored.specs.Changing.{Delta, applied}
 use Rattle.ov_refs.specs.Linking.{Links, AreLinksOf}
 use Rattle.ov_integrity.specs.Missing.{misses_by}
 use Rattle.ov_integrity.proofs.Candidates.{beside, made_is}
-use Rattle.ov_integrity.proofs.Entries.{any_entry_is, entry_is_any}
-use Rattle.ov_integrity.proofs.HeldKeys.{holder_passes, passes_holder, row_there, target_there}
-use Rattle.ov_integrity.proofs.Keys.{same_truth}
+use Rattle.ov_support.proofs.Entries.{any_entry_is, entry_is_any}
+use Rattle.ov_support.proofs.HeldKeys.{holder_passes, passes_holder, row_there, target_there}
+use Rattle.ov_support.proofs.Keys.{same_truth}
 
 -- ---- targets of a row
 

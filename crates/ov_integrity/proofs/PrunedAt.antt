@@ -16,7 +16,7 @@ use Rattle.ov_specs.specs.values.Value.{Atom, Datum, Atoms, Pairs, set_of, map_o
 use Rattle.ov_specs.proofs.laws.LineKeys.{key_total, key_exact, tied_same, same_key-tied}
 use Rattle.ov_specs.proofs.laws.Pruning.{get-pruned, pruned_row-without, pruned_row_dangles_not}
 use Rattle.ov_integrity.specs.Pruning.{with_pruned, pruned_at, pruned_at_all, MayDangle}
-use Rattle.ov_integrity.proofs.Keys.{contradicts}
+use Rattle.ov_support.proofs.Keys.{contradicts}
 
 -- ---- what dangles depends on the keys alone
 

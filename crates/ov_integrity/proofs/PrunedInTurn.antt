@@ -14,7 +14,7 @@ use Rattle.ov_specs.specs.values.Uuid.{Uuid}
 use Rattle.ov_specs.proofs.laws.LineKeys.{key_total, key_exact, same_tied, same_key-is, same_key-itself}
 use Rattle.ov_specs.proofs.laws.Pruning.{pruned_row-without, pruned_row_dangles_not}
 use Rattle.ov_integrity.specs.Pruning.{with_pruned, pruned_at, pruned_at_all, is_short_at}
-use Rattle.ov_integrity.proofs.Keys.{none_is}
+use Rattle.ov_support.proofs.Keys.{none_is}
 use Rattle.ov_integrity.proofs.PrunedAt.{dangles-same, get-pruned_at, contains_key-pruned_at, get-pruned_at_all}
 
 -- ---- one row

@@ -20,7 +20,7 @@ use Rattle.ov_specs.proofs.laws.Pruning.{get-pruned, pruned_row-without}
 use Rattle.ov_specs.proofs.laws.References.{any_row_is, row_is_any}
 use Rattle.ov_integrity.specs.Pruning.{is_short_at, MayDangle}
 use Rattle.ov_refs.proofs.SetKeys.{any_at_key}
-use Rattle.ov_integrity.proofs.Keys.{contradicts, same_truth}
+use Rattle.ov_support.proofs.Keys.{contradicts, same_truth}
 
 -- ---- a row that suits its table is not short
 

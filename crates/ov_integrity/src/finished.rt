@@ -5,17 +5,15 @@ ghost use Rattle.ov_specs.specs.integrity.Committed.{committed, is_whole};
 ghost use Rattle.ov_specs.specs.rows.Suits.{Suits};
 ghost use Rattle.ov_integrity.specs.Finishing.{IsFinished};
 
-use crate::changes::Changes;
-use crate::limits::breaks_a_limit;
 use crate::missing::misses;
 use crate::prune::prune;
-use crate::support::drop_unsupported;
 use ov_index::Indexes;
 use ov_projection::OpError;
 use ov_refs::Links;
 use ov_schema::Schema;
 use ov_stage::Stage;
 use ov_stored::Delta;
+use ov_support::{breaks_a_limit, drop_unsupported};
 use std::alloc::{AllocError, Global};
 use uuid::Uuid;
 
@@ -50,9 +48,8 @@ fn finish_stage(
     if misses(alloc, schema, links, &stage)? {
         return Ok(Finished::Refused(OpError::ReferentialIntegrity));
     }
-    let changes = Changes::of(alloc, schema, &stage)?;
     let mut stage = stage;
-    drop_unsupported(alloc, schema, links, &changes, &mut stage)?;
+    drop_unsupported(alloc, schema, links, &mut stage)?;
     if prune(alloc, schema, version, links, &mut stage)? {
         return Ok(Finished::Refused(OpError::Constraint));
     }

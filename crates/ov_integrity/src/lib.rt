@@ -3,11 +3,8 @@
 //! broken. Follows only what the transaction has changed.
 #![tactic(auto)]
 
-mod changes;
 mod finished;
-mod limits;
 mod missing;
 mod prune;
-mod support;
 
 pub use finished::{Finished, finish};

@@ -1,8 +1,0 @@
-use Rattle.std.proofs.Common.{◌≡◌}
-use Rattle.std.specs.FinMap.{keys}
-use Rattle.std.specs.List.{list_any}
-use Rattle.ov_integrity.specs.Linked.{is_there_beside}
-use Rattle.ov_integrity.proofs.support.has_beside.Given as goal
-
-abbrev pub invariant-loop-from : goal.invariant-loop-from
-invariant-loop-from l = list_any (is_there_beside l.stage.now l.key) l.from-iterator ≡ list_any (is_there_beside l.stage.now l.key) (keys l.holders)

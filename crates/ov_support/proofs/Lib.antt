@@ -1,0 +1,10 @@
+pub mod Keys
+pub mod Lacking
+pub mod Fewer
+pub mod Bounded
+pub mod Entries
+pub mod Counting
+pub mod ChangedRows
+pub mod HeldKeys
+pub mod SupportedRows
+pub mod Indexed

@@ -1,0 +1,4 @@
+pub mod Supporting
+pub mod Changes
+pub mod Linked
+pub mod Counting
