@@ -14,8 +14,7 @@ use std::fs;
 use std::io::{self, ErrorKind};
 
 /// Copies everything in the log of a store into its database file, which then holds the whole database, and returns the two
-/// files. Returns `Memory` or `Device` if the log could not be copied. Nothing is lost then: both are released, and the next
-/// open finds everything in the two.
+/// files. Returns `Memory` or `Device` if the log could not be copied; both files are released then.
 pub fn close_files<D: Disk + Drop>(store: Store<FileStore<D>>) -> Result<Files<D>, KeepFault>
     ensures whole { IfOk result (λ files. AreClean D.Disk files.log files.db
         → IsWhole store files) }
