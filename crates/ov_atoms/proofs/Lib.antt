@@ -9,3 +9,4 @@ pub mod Permuting
 pub mod Sorting
 pub mod Ascending
 pub mod Tokens
+pub mod Merging

@@ -1,5 +1,4 @@
-ghost use Rattle.std.specs.Prelude.{◌≡◌, ◌∷◌, [], T, IfOk, option_map, if◌then◌else◌, Some, None};
-ghost use Rattle.std.specs.Bool.{OnTrue};
+ghost use Rattle.std.specs.Prelude.{◌≡◌, ◌∷◌, [], IfOk, option_map, if◌then◌else◌, Some, None};
 ghost use Rattle.std.specs.FinMap.{is_sorted};
 ghost use Rattle.ov_specs.specs.values.Value as value;
 ghost use Rattle.ov_specs.specs.values.Reading.{has_clash};
@@ -10,7 +9,6 @@ use crate::atom_list::AtomList;
 use crate::kind::Kinds;
 use std::alloc::{AllocError, Global};
 use std::cmp::Ordering;
-use std::collections::BTreeMap;
 use std::marker::Model;
 
 /// A value of a column: a finite set of atoms or a finite map (RFC 7047, 5.1, `<value>`). A scalar is a set of one.
@@ -71,7 +69,7 @@ impl Datum {
     }
 
     /// The map of these pairs, in any order, or `None` if a key has two values. Equal pairs merge.
-    pub fn of_pairs(alloc: Global, pairs: Vec<(Atom, Atom)>) -> Result<Option<Datum>, AllocError>
+    pub fn of_pairs(_alloc: Global, pairs: Vec<(Atom, Atom)>) -> Result<Option<Datum>, AllocError>
         ensures { IfOk result (λ o. o
             ≡ (if has_clash (pairs_view pairs.items) then None else Some
             (value.Pairs (value.map_of (pairs_view pairs.items))))) }
@@ -79,30 +77,14 @@ impl Datum {
         let mut pairs = pairs;
         // This sort merges ascending lists, such as those of two maps, in one pass.
         pairs.sort()?;
+        pairs.dedup();
         if do_ascend(pairs.as_slice()) {
             return Ok(Some(Datum {
                 parts: SortedElements::Pairs(pairs),
             }));
         }
-        Datum::of_repeated(alloc, pairs)
-    }
-
-    /// The map of these pairs, some of which have the same key.
-    fn of_repeated(alloc: Global, pairs: Vec<(Atom, Atom)>) -> Result<Option<Datum>, AllocError>
-        ensures { IfOk result (λ o. o
-            ≡ (if has_clash (pairs_view pairs.items) then None else Some
-            (value.Pairs (value.map_of (pairs_view pairs.items))))) }
-    {
-        let Some(merged) = merge_pairs(alloc, pairs)? else {
-            return Ok(None);
-        };
-        let mut ascending = Vec::with_capacity(alloc, merged.len())?;
-        for pair in merged {
-            ascending.push(pair)?;
-        }
-        Ok(Some(Datum {
-            parts: SortedElements::Pairs(ascending),
-        }))
+        // Neighbours that still have the same key have two values for it.
+        Ok(None)
     }
 
     /// The empty set or the empty map: the default of a column whose `min` is 0 (RFC 7047, 5.2.1).
@@ -188,7 +170,7 @@ impl Datum {
 
 /// Whether each key comes before the next one.
 fn do_ascend(pairs: &[(Atom, Atom)]) -> bool
-    ensures { OnTrue result (T (is_sorted value.atom_cmp (pairs_view pairs.now))) }
+    ensures { result ≡ is_sorted value.atom_cmp (pairs_view pairs.now) }
 {
     for at in 1..pairs.len() {
         match pairs[at - 1].0.cmp(&pairs[at].0) {
@@ -197,28 +179,6 @@ fn do_ascend(pairs: &[(Atom, Atom)]) -> bool
         }
     }
     true
-}
-
-/// The pairs in order of their keys, or `None` if a key has two values.
-fn merge_pairs(
-    alloc: Global,
-    pairs: Vec<(Atom, Atom)>,
-) -> Result<Option<BTreeMap<Atom, Atom>>, AllocError>
-    ensures { IfOk result (λ o. option_map (λ m. value.map_of (pairs_view m.entries)) o
-        ≡ (if has_clash (pairs_view pairs.items) then None else Some
-        (value.map_of (pairs_view pairs.items)))) }
-{
-    let mut map = BTreeMap::new(alloc);
-    for (key, value) in pairs {
-        if let Some(former) = map.get(&key) {
-            if *former != value {
-                return Ok(None);
-            }
-        } else {
-            map.insert(key, value)?;
-        }
-    }
-    Ok(Some(map))
 }
 
 fn copy_pairs(alloc: Global, pairs: &[(Atom, Atom)]) -> Result<Vec<(Atom, Atom)>, AllocError>
