@@ -16,11 +16,8 @@ use Rattle.ov_specs.proofs.laws.Names.{name_cmp_total, name_exact}
 use Rattle.ov_specs.proofs.laws.Truths.{both_hold, left_holds, right_holds, less_is, equal_is}
 use Rattle.ov_rows.specs.Nested.{id_cmp}
 use Rattle.ov_rows.proofs.Maps.{from_sorted-nil}
-use Rattle.ov_index.specs.Indexing.{IdSet, set_of_ids}
+use Rattle.ov_index.specs.Indexing.{Ascend, IdSet, set_of_ids}
 use Rattle.ov_specs.specs.values.Value.{marked}
-
-abbrev pub Ascend : List Uuid → Type 0
-Ascend ids = T (is_sorted id_cmp (map marked ids))
 
 -- the identifier is one of these
 abbrev pub among : List Uuid → Uuid → Bool

@@ -1,9 +1,9 @@
 -- Rows by their values in the indexes of their tables, as a map.
-use Rattle.std.specs.Prelude.{◌≡◌, ◌==◌, List, [], ◌∷◌, map, Bool, if◌then◌else◌, Option, Some, None, option_map, slice_get, unwrap_or}
+use Rattle.std.specs.Prelude.{◌≡◌, ◌==◌, List, [], ◌∷◌, map, Bool, T, if◌then◌else◌, Option, Some, None, option_map, slice_get, unwrap_or}
 use Rattle.std.specs.Coded.{Coded, coded_ℕ, coded_list}
 use base.Stored.{coded_unit}
 use Rattle.std.specs.FinMap as map
-use Rattle.std.specs.FinMap.{FinMap, empty, get, contains_key, insert, remove, len}
+use Rattle.std.specs.FinMap.{FinMap, empty, get, contains_key, insert, is_sorted, remove, len}
 use Rattle.std.specs.declared.cmp.Ordering.{Ordering}
 use Rattle.ov_rows.specs.Nested.{id_cmp}
 use Rattle.ov_index.specs.IndexKeys.{IndexKey, IndexEntry, index_cmp, same_index_key, key_at, index_key_code}
@@ -92,6 +92,10 @@ without_entries [] indexes = indexes
 without_entries (entry ∷ entries) indexes = without_entries entries (without_entry entry indexes)
 
 -- ---- how models store them
+
+-- identifiers in ascending order
+abbrev pub Ascend : List Uuid → Type 0
+Ascend ids = T (is_sorted id_cmp (map marked ids))
 
 -- the set of an ascending list
 abbrev pub set_of_ids : List Uuid → IdSet

@@ -12,12 +12,8 @@ pub struct IdSet {
 }
 
 impl Model for IdSet {
-    ghost use Rattle.std.specs.Prelude.{T, map};
-    ghost use Rattle.std.specs.FinMap.{is_sorted};
-    ghost use Rattle.ov_rows.specs.Nested.{id_cmp};
     ghost use Rattle.ov_index.specs.Indexing as indexing;
-    ghost use Rattle.ov_index.specs.Indexing.{id_set_code, set_of_ids};
-    ghost use Rattle.ov_specs.specs.values.Value.{marked};
+    ghost use Rattle.ov_index.specs.Indexing.{Ascend, id_set_code, set_of_ids};
 
     ghost Value = { indexing.IdSet };
 
@@ -25,7 +21,7 @@ impl Model for IdSet {
 
     ghost view = { λ s. set_of_ids s.ids.items };
 
-    ghost invariant = { λ s. T (is_sorted id_cmp (map marked s.ids.items)) };
+    ghost invariant = { λ s. Ascend s.ids.items };
 }
 
 impl Drop for IdSet {

@@ -8,7 +8,7 @@ use Rattle.std.specs.Cmp.{eq_by_cmp_equiv}
 use Rattle.std.specs.FinMap.{get, contains_key, contains_key-keys, empty, entries, entries_sorted, get-empty, is_sorted, keys, len-empty, len-entries}
 use Rattle.std.specs.List.{cons_option}
 use Rattle.ov_index.specs.IndexKeys.{IndexKey, index_key, key_at, same_index_key, values_in}
-use Rattle.ov_index.specs.Indexing.{AreIndexesOf, IdSet, Indexes, ids_at, is_indexed, is_at}
+use Rattle.ov_index.specs.Indexing.{AreIndexesOf, Ascend, IdSet, Indexes, ids_at, is_indexed, is_at}
 use Rattle.ov_index.specs.KeyOrder.{index_total}
 use Rattle.ov_rows.specs.Nested.{id_cmp}
 use Rattle.ov_specs.specs.operations.Conditions.{Condition}
@@ -17,7 +17,7 @@ use Rattle.ov_specs.specs.schema.Schema.{is_some_and}
 use Rattle.ov_specs.specs.schema.SchemaTypes.{Table, Schema}
 use Rattle.ov_specs.specs.values.Uuid.{Uuid}
 use Rattle.ov_specs.specs.values.Value.{Datum, marked}
-use Rattle.ov_stage.specs.Asked.{Ascend, AreIdsOf, AreValuesAt, AreValuesOf, IsValueOf, has_id}
+use Rattle.ov_stage.specs.Asked.{AreIdsOf, AreValuesAt, AreValuesOf, IsValueOf, has_id}
 
 -- ---- the values of an index
 

@@ -20,12 +20,13 @@ use Rattle.ov_stored.proofs.Same.{text-same}
 use Rattle.ov_stored.specs.Changing.{Delta, applied, with_row_changes}
 use Rattle.ov_stored.proofs.Places.{get-applied, or_before}
 use Rattle.ov_specs.specs.values.Value.{marked}
+use Rattle.ov_index.specs.Indexing.{Ascend}
 use Rattle.ov_rows.specs.Lending.{lent_row_of}
 use Rattle.ov_rows.specs.Nested.{TableRows, id_cmp, rows_in}
 use Rattle.ov_rows.specs.Resident.{database_of}
 use Rattle.ov_rows.specs.declared.row_view.RowView.{RowView}
 use Rattle.ov_rows.proofs.Nesting.{within}
-use Rattle.ov_stage.specs.Asked.{Ascend, AreIdsOf, changes_of, has_id, rows_after, rows_of_ids}
+use Rattle.ov_stage.specs.Asked.{AreIdsOf, changes_of, has_id, rows_after, rows_of_ids}
 use Rattle.ov_stage.specs.Staging.{entry_if_found}
 use Rattle.ov_stage.proofs.Lookups.{at_key, get-of_table, get-no_table}
 use Rattle.ov_stage.proofs.Merging.{get-after, keyed}

@@ -1,6 +1,6 @@
 -- What conditions ask for in the columns of an index, and the rows found there.
-use Rattle.std.specs.Prelude.{◌≡◌, true, false, Bool, ℕ, T, List, map, Option, Some, IfSome, option_map, option_to_list, slice_get}
-use Rattle.std.specs.FinMap.{get, entries, is_sorted}
+use Rattle.std.specs.Prelude.{◌≡◌, true, false, Bool, ℕ, List, Option, Some, IfSome, option_map, option_to_list, slice_get}
+use Rattle.std.specs.FinMap.{get, entries}
 use Rattle.std.specs.List.{filter, flat_map, list_any}
 use Rattle.std.specs.Ordering.{eq_by_cmp}
 use Rattle.std.specs.Str.{bytes_eq}
@@ -16,7 +16,7 @@ use Rattle.ov_specs.specs.rows.Database.{Database, Row}
 use Rattle.ov_specs.specs.rows.Lines.{LineKey}
 use Rattle.ov_specs.specs.schema.SchemaTypes.{Table}
 use Rattle.ov_specs.specs.values.Uuid.{Uuid}
-use Rattle.ov_specs.specs.values.Value.{Datum, marked}
+use Rattle.ov_specs.specs.values.Value.{Datum}
 use Rattle.ov_stage.specs.Staging.{entry_if_found}
 use Rattle.ov_stage.specs.declared.indexed.Indexed.{Indexed}
 
@@ -39,10 +39,6 @@ AreValuesAt conditions table number values =
     → option_map (λ index. values_in index row.1.columns) (slice_get table.indexes number) ≡ Some values
 
 -- ---- rows that include them
-
--- identifiers in ascending order
-abbrev pub Ascend : List Uuid → Type 0
-Ascend ids = T (is_sorted id_cmp (map marked ids))
 
 -- the identifier is one of these
 abbrev pub has_id : List Uuid → Uuid → Bool

@@ -1,9 +1,9 @@
 ghost use Rattle.std.specs.Prelude.{◌≡◌, IfOk, IfSome};
 ghost use Rattle.std.specs.FinMap.{keys};
 ghost use Rattle.ov_index.specs.IndexKeys.{index_key};
-ghost use Rattle.ov_index.specs.Indexing.{AreIndexesOf, ids_at};
+ghost use Rattle.ov_index.specs.Indexing.{AreIndexesOf, Ascend, ids_at};
 ghost use Rattle.ov_specs.specs.rows.Database as rows;
-ghost use Rattle.ov_stage.specs.Asked.{Ascend, AreIdsOf, AreValuesAt, AreValuesOf, IsValueOf};
+ghost use Rattle.ov_stage.specs.Asked.{AreIdsOf, AreValuesAt, AreValuesOf, IsValueOf};
 
 use ov_atoms::Datum;
 use ov_base::Text;

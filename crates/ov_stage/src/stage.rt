@@ -4,7 +4,7 @@ ghost use Rattle.std.specs.List.{filter};
 ghost use Rattle.std.specs.FinMap.{contains_key, get, insert, remove, entries, len};
 ghost use Rattle.ov_stored.specs.Changing.{applied};
 ghost use Rattle.ov_index.specs.Changing.{are_any_alike};
-ghost use Rattle.ov_index.specs.Indexing.{AreIndexesOf};
+ghost use Rattle.ov_index.specs.Indexing.{AreIndexesOf, Ascend};
 ghost use Rattle.ov_rows.specs.Lending.{lent_row_of};
 ghost use Rattle.ov_specs.specs.operations.Conditions as conditions;
 ghost use Rattle.ov_specs.specs.operations.MatchingRows.{meets_all, matching};
@@ -12,7 +12,7 @@ ghost use Rattle.ov_specs.specs.rows.Database.{same_database};
 ghost use Rattle.ov_specs.specs.rows.Version.{row_now};
 ghost use Rattle.std.specs.Str.{bytes_eq};
 ghost use Rattle.ov_stage.specs.Apart.{AreToldApart};
-ghost use Rattle.ov_stage.specs.Asked.{Ascend, AreIdsOf};
+ghost use Rattle.ov_stage.specs.Asked.{AreIdsOf};
 ghost use Rattle.ov_stage.specs.Staging.{Differs, entry_if_found};
 
 use crate::conditions::{meeting, only_id};

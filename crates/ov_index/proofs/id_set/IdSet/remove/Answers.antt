@@ -1,7 +1,7 @@
 use Rattle.std.proofs.Common.{◌≡◌, ap, subst, sym, ◌∙◌}
 use Rattle.std.specs.FinMap.{remove}
-use Rattle.ov_index.specs.Indexing.{IdSet, set_of_ids}
-use Rattle.ov_index.proofs.IdSets.{Ascend, IsBetween, IsFoundAt, searched_between, searched_found, ascend-remove, set_of-remove, set_of-absent}
+use Rattle.ov_index.specs.Indexing.{Ascend, IdSet, set_of_ids}
+use Rattle.ov_index.proofs.IdSets.{IsBetween, IsFoundAt, searched_between, searched_found, ascend-remove, set_of-remove, set_of-absent}
 use Rattle.ov_index.proofs.id_set.IdSet.remove.Goals as goal
 
 pub invariant_of-self : goal.invariant_of-self

@@ -1,8 +1,8 @@
 use Rattle.std.proofs.Common.{IfSome, sym, subst, ap, ◌∙◌}
 use Rattle.std.specs.FinMap.{keys}
 use Rattle.ov_index.specs.IndexKeys.{index_key}
-use Rattle.ov_index.specs.Indexing.{ids_at}
-use Rattle.ov_stage.specs.Asked.{Ascend, AreIdsOf, AreValuesAt}
+use Rattle.ov_index.specs.Indexing.{Ascend, ids_at}
+use Rattle.ov_stage.specs.Asked.{AreIdsOf, AreValuesAt}
 use Rattle.ov_stage.proofs.Asking.{ids-ascend, ids-asked}
 use Rattle.ov_stage.proofs.indexed.Indexed.ids_asked.Goals as goal
 
