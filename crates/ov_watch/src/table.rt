@@ -118,22 +118,22 @@ fn monitored(
     let requests = asked.requests.as_slice();
     Ok(MonitoredTable {
         table: Text::from_str(alloc, asked.table.as_str())?,
-        initial: told_columns(alloc, table, requests, Kind::Initial)?,
-        inserted: told_columns(alloc, table, requests, Kind::Insert)?,
-        deleted: told_columns(alloc, table, requests, Kind::Delete)?,
-        modified: told_columns(alloc, table, requests, Kind::Modify)?,
+        initial: monitored_columns(alloc, table, requests, Kind::Initial)?,
+        inserted: monitored_columns(alloc, table, requests, Kind::Insert)?,
+        deleted: monitored_columns(alloc, table, requests, Kind::Delete)?,
+        modified: monitored_columns(alloc, table, requests, Kind::Modify)?,
     })
 }
 
 /// The columns that are reported at this kind of change, or `None` if no request selects it.
-fn told_columns(
+fn monitored_columns(
     alloc: Global,
     table: &Table,
     requests: &[MonitorRequest],
     kind: Kind,
 ) -> Result<Option<Vec<Text>>, AllocError>
     ensures { IfOk result (λ o. option_map (λ v. v.items) o
-        ≡ spec.told_columns table.now (filter (selects kind) requests.now)) }
+        ≡ spec.monitored_columns table.now (filter (selects kind) requests.now)) }
 {
     let selected = selected(alloc, requests, kind)?;
     if selected.is_empty() {

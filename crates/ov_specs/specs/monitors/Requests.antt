@@ -128,19 +128,19 @@ is_one_of None name = not (bytes_eq name (codes "_uuid"))
 is_one_of (Some names) name = list_any (bytes_eq name) names
 
 -- the columns of the table that one of the requests is about, or None if there is no request
-abbrev pub told_columns : Table → List MonitorRequest → Option (List (List ℕ))
-told_columns table [] = None
-told_columns table (r ∷ requests) =
+abbrev pub monitored_columns : Table → List MonitorRequest → Option (List (List ℕ))
+monitored_columns table [] = None
+monitored_columns table (r ∷ requests) =
     Some (filter (λ name. list_any (λ request. is_one_of request.columns name) (r ∷ requests)) (keys table.columns))
 
 -- at each kind of change the columns are those of the requests that select it (RFC 7047, 4.1.5, <monitor-select>)
 abbrev pub monitored : Table → TableRequests → MonitoredTable
 monitored table t = record {
   table = t.0;
-  initial = told_columns table (filter (λ r. r.select.initial) t.1);
-  insert = told_columns table (filter (λ r. r.select.insert) t.1);
-  delete = told_columns table (filter (λ r. r.select.delete) t.1);
-  modify = told_columns table (filter (λ r. r.select.modify) t.1);
+  initial = monitored_columns table (filter (λ r. r.select.initial) t.1);
+  insert = monitored_columns table (filter (λ r. r.select.insert) t.1);
+  delete = monitored_columns table (filter (λ r. r.select.delete) t.1);
+  modify = monitored_columns table (filter (λ r. r.select.modify) t.1);
 }
 
 -- The table is one of the schema's, and has the columns that are named.
