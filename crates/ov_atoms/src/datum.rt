@@ -69,7 +69,7 @@ impl Datum {
     }
 
     /// The map of these pairs, in any order, or `None` if a key has two values. Equal pairs merge.
-    pub fn of_pairs(_alloc: Global, pairs: Vec<(Atom, Atom)>) -> Result<Option<Datum>, AllocError>
+    pub fn of_pairs(pairs: Vec<(Atom, Atom)>) -> Result<Option<Datum>, AllocError>
         ensures { IfOk result (λ o. o
             ≡ (if has_clash (pairs_view pairs.items) then None else Some
             (value.Pairs (value.map_of (pairs_view pairs.items))))) }

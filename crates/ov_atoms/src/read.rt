@@ -222,7 +222,7 @@ pub fn read_datum<N: Names>(
             None => Err(AtomFault::Syntax),
         },
         Kinds::Pair(key, value) => match pairs_of(alloc, tree, key, value, names)? {
-            Some(pairs) => Datum::of_pairs(alloc, pairs)?.ok_or(AtomFault::Clash),
+            Some(pairs) => Datum::of_pairs(pairs)?.ok_or(AtomFault::Clash),
             None => Err(AtomFault::Syntax),
         },
     }

@@ -113,7 +113,7 @@ fn pruned_datum(
     match datum.pairs() {
         Some(pairs) => {
             let left = pruned_pairs(alloc, rows, column, pairs)?;
-            match Datum::of_pairs(alloc, left)? {
+            match Datum::of_pairs(left)? {
                 Some(datum) => Ok(datum),
                 None => datum.copy(alloc),
             }

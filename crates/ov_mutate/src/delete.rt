@@ -84,11 +84,11 @@ pub(crate) fn deleted(alloc: Global, column: &Datum, elements: &Datum) -> Result
         }
         (Elements::Pairs(pairs), Elements::Pairs(gone)) => {
             let left = remaining_pairs(alloc, pairs, gone)?;
-            map_of(alloc, left)
+            map_of(left)
         }
         (Elements::Pairs(pairs), Elements::Atoms(keys)) => {
             let left = pairs_without_keys(alloc, pairs, keys)?;
-            map_of(alloc, left)
+            map_of(left)
         }
         (Elements::Atoms(_), Elements::Pairs(_)) => column.copy(alloc),
     }

@@ -71,11 +71,11 @@ fn inserted_pairs(
 }
 
 /// The map of these pairs, no two of which have the same key.
-pub(crate) fn map_of(alloc: Global, pairs: Vec<(Atom, Atom)>) -> Result<Datum, AllocError>
+pub(crate) fn map_of(pairs: Vec<(Atom, Atom)>) -> Result<Datum, AllocError>
     requires { has_clash (pairs_view pairs.items) ≡ false }
     ensures { IfOk result (λ d. d ≡ value.Pairs (value.map_of (pairs_view pairs.items))) }
 {
-    Ok(Datum::of_pairs(alloc, pairs)?.unwrap())
+    Ok(Datum::of_pairs(pairs)?.unwrap())
 }
 
 /// The union. A key that a map has keeps its value (RFC 7047, 5.1, `<mutator>`).
@@ -91,7 +91,7 @@ pub(crate) fn inserted(alloc: Global, column: &Datum, elements: &Datum) -> Resul
         }
         (Elements::Pairs(pairs), Elements::Pairs(others)) => {
             let union = inserted_pairs(alloc, pairs, others)?;
-            map_of(alloc, union)
+            map_of(union)
         }
         _ => column.copy(alloc),
     }

@@ -73,7 +73,7 @@ fn guess_map(alloc: Global, reader: &mut Reader<'_>) -> Result<Datum, AtomFault>
         pairs.push(pair).map_err(AllocError::from)?;
     }
     pairs.shrink_to_fit();
-    Datum::of_pairs(alloc, pairs)?.ok_or(AtomFault::Clash)
+    Datum::of_pairs(pairs)?.ok_or(AtomFault::Clash)
 }
 
 /// The next `[key,value]`.

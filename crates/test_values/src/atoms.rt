@@ -282,7 +282,7 @@ fn numbers(alloc: Global) -> Result<Datum, AllocError> {
 fn pair(alloc: Global) -> Result<Datum, Fail> {
     let text = Atom::Text(Text::from_str(alloc, "a")?);
     let pairs = vec![in alloc; (Atom::Integer(1), text)]?;
-    Ok(Datum::of_pairs(alloc, pairs)?.ok_or("a clash")?)
+    Ok(Datum::of_pairs(pairs)?.ok_or("a clash")?)
 }
 
 /// The value for a word.
