@@ -66,7 +66,7 @@ clash-dedup_from k (p ∷ ps) =
       | false ↦ λ e. (λ i. any-dedup_from (differ_at_one_key (pair_view k)) p ps i || clash-dedup_from p ps i)
     ] refl
 
--- the value of a pair at its key, or what is found behind it
+-- the value of a pair at its key, or what is found after it
 abbrev first_or : value.Atom → value.Atom × value.Atom → Option value.Atom → Option value.Atom
 first_or q e rest = cond (same q e.0) (Some e.1) rest
 
