@@ -294,7 +294,7 @@ module _ {K D S W L C : Type 0} (ends : S → W → LinkState) (tells : C → �
   }
 
   -- what a lobby comes to, once each session has left, of these links
-  pub serves_guests : {T : Type 0} (gives : T → Link S W → T → Type 0) (listener : T) (a b : Hall K D S W L) (clock clock' : C) (s : Serves a.desk.core a.desk.core a.desk.lanes.items) → s.since.entries ≡ []
+  pub serves_guests : {T : Type 0} (gives : T → Option (Link S W) → T → Type 0) (listener : T) (a b : Hall K D S W L) (clock clock' : C) (s : Serves a.desk.core a.desk.core a.desk.lanes.items) → s.since.entries ≡ []
       → HostsBy ends tells a clock b clock' → AreOver b.desk.lanes.items → HaveLeft ends b.desk.lanes.items b.workers.items → HaveCome ends gives listener (arrived b.accepted)
       → ServesGuests ends tells gives listener (with_clock a.desk.core clock) (with_clock b.desk.core clock')
   serves_guests gives listener a b clock clock' s none by over left come =

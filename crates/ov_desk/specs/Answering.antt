@@ -32,7 +32,7 @@ pub record AnswersLinks {K D S W C : Type 0} (ends : S → W → LinkState) (tel
 -- The listener was served until it gave no more, and each session that was opened was a guest. Or it was refused, because an
 -- allocation failed or a thread could not be started: then the machine and the listener come back as they were, and the clock
 -- reported nothing. A keeper that is honest now was honest before.
-pub record AnswersLobby {K D S W C T : Type 0} (ends : S → W → LinkState) (tells : C → ℕ → C → Type 0) (gives : T → Link S W → T → Type 0) (is_honest : K → Type 0) (old : ToServe K D C T) (answer : Result (Desk K D) (RefusedLobby K D T)) (clock : C) : Type 0 where
+pub record AnswersLobby {K D S W C T : Type 0} (ends : S → W → LinkState) (tells : C → ℕ → C → Type 0) (gives : T → Option (Link S W) → T → Type 0) (is_honest : K → Type 0) (old : ToServe K D C T) (answer : Result (Desk K D) (RefusedLobby K D T)) (clock : C) : Type 0 where
   pub guests : IfOk answer (λ desk. ServesGuests ends tells gives old.what old.start (with_clock desk.core clock))
   pub refused : IfErr answer (λ r. (r.desk.core ≡ old.start.core) × (r.listener ≡ old.what))
   pub fault : IfErr answer (λ r. (r.fault ≡ Memory) ⊎ (r.fault ≡ Threads))

@@ -6,7 +6,7 @@ use Rattle.ov_lanes.specs.Moments.{Tells}
 use Rattle.ov_lanes.specs.Since.{Since}
 use Rattle.ov_lanes.specs.Lanes.{IsAt, SameLane, StayAs, Serves, ServesOn, DeskGoesOn}
 use Rattle.ov_lanes.specs.declared.lane.Lane.{Lane}
-use Rattle.ov_workers.specs.Accepting.{Gives, SameArrivals, arrived, may_come}
+use Rattle.ov_workers.specs.Accepting.{GivesAll, SameArrivals, arrived, may_come}
 use Rattle.ov_workers.specs.LinkStates.{LinkState}
 use Rattle.ov_workers.specs.declared.link.Link.{Link}
 use Rattle.ov_threads.specs.declared.workers.Workers.{Workers}
@@ -24,13 +24,14 @@ pub record IsGuest {K D S W : Type 0} {old new : CoreState K D} (ends : S → W 
   pub serial : remains.serial ≡ n
   pub comes_to : LinkEnds since n remains.cause (ends link.reader link.writer) (ends remains.reader remains.writer)
 
--- The lobby served its guests. The listener gave links, one after another, over which nothing had gone. Some of them got a
--- session each, in their order, with the next serials, and were served to their ends. No other session was opened.
-pub record ServesGuests {K D S W C T : Type 0} (ends : S → W → LinkState) (tells : C → ℕ → C → Type 0) (gives : T → Link S W → T → Type 0) (listener : T) (old new : Timed K D C) : Type 0 where
+-- The lobby served its guests. The listener gave links, one after another, over which nothing had gone, until it had no more.
+-- Some of them got a session each, in their order, with the next serials, and were served to their ends. No other session was
+-- opened.
+pub record ServesGuests {K D S W C T : Type 0} (ends : S → W → LinkState) (tells : C → ℕ → C → Type 0) (gives : T → Option (Link S W) → T → Type 0) (listener : T) (old new : Timed K D C) : Type 0 where
   pub lobby : ServesLobby tells old new
   pub links : List (Link S W)
   pub last : T
-  pub gave : Gives ends gives listener links last
+  pub gave : GivesAll ends gives listener links last
   pub guests : List (Link S W)
   pub among : AreAmong guests links
   pub many : new.core.state.next ≡ old.core.state.next + length guests

@@ -1,5 +1,5 @@
 -- The ends of a connection.
-use Rattle.std.specs.Prelude.{◌≡◌, List, [], ◌∷◌, false}
+use Rattle.std.specs.Prelude.{◌≡◌, List, [], ◌∷◌, false, Option, Some, None}
 use Rattle.std.specs.Io.Buffered.{writer_buffer}
 use Rattle.std.specs.declared.alloc.Global.{Global}
 use Rattle.std.specs.declared.io.buffered.BufWriter.{BufWriter}
@@ -28,6 +28,7 @@ abbrev pub AreNewClients : List ClientLink → Type 0
 AreNewClients [] = Unit {0}
 AreNewClients (link ∷ links) = ((stream : TcpStream) × IsNewClient link stream) × AreNewClients links
 
--- the two are of a connection of the listener's, over which nothing went; the listener stays as it is
-abbrev pub GivesClient : Clients → ClientLink → Clients → Type 0
-GivesClient old link new = (new ≡ old) × ((stream : TcpStream) × IsNewClient link stream)
+-- The two are of a connection of the listener's, over which nothing went. The listener stays as it is.
+abbrev pub GivesClient : Clients → Option ClientLink → Clients → Type 0
+GivesClient old None new = new ≡ old
+GivesClient old (Some link) new = (new ≡ old) × ((stream : TcpStream) × IsNewClient link stream)

@@ -3,10 +3,10 @@ use Rattle.std.proofs.Common.{◌≡◌, inl, inr, List, [], ◌∷◌, ◌++◌
 use Rattle.std.proofs.lemmas.Option.{same_Some}
 use Rattle.ov_workers.specs.declared.link.Link.{Link}
 use Rattle.ov_workers.specs.LinkStates.{LinkState}
-use Rattle.ov_workers.specs.Accepting.{Gives}
+use Rattle.ov_workers.specs.Accepting.{GivesAll}
 use Rattle.ov_threads.specs.Handing.{BringsLinks, HaveCome}
 
-module _ {S W T : Type 0} (ends : S → W → LinkState) (gives : T → Link S W → T → Type 0) where
+module _ {S W T : Type 0} (ends : S → W → LinkState) (gives : T → Option (Link S W) → T → Type 0) where
   -- what was taken is the first of what was brought of the listener that was handed
   pub have_come : (listener : T) (handed ahead : List (Option T)) (come rest links : List (Link S W)) → handed ++ ahead ≡ Some listener ∷ [] → BringsLinks ends gives handed links → come ++ rest ≡ links → HaveCome ends gives listener come
   have_come listener handed ahead come rest links all (inl (none, nothing)) first =
@@ -16,7 +16,7 @@ module _ {S W T : Type 0} (ends : S → W → LinkState) (gives : T → Link S W
       record {
         links = links;
         last = last;
-        gave = subst (λ (t : T). Gives ends gives t links last) e gave;
+        gave = subst (λ (t : T). GivesAll ends gives t links last) e gave;
         rest = rest;
         first = first;
       }

@@ -12,7 +12,7 @@ use Rattle.ov_workers.specs.Inlet.{SameInlet}
 use Rattle.ov_workers.specs.declared.inlet.Inlet.{Inlet}
 use Rattle.ov_workers.specs.declared.link.Link.{Link}
 use Rattle.ov_workers.specs.LinkStates.{LinkState}
-use Rattle.ov_workers.specs.Accepting.{Gives}
+use Rattle.ov_workers.specs.Accepting.{GivesAll}
 use Rattle.ov_threads.specs.declared.reading.ReadLeft.{ReadLeft}
 use Rattle.ov_threads.specs.declared.writing.WriteLeft.{WriteLeft}
 
@@ -38,16 +38,16 @@ WritesLink sink keeps ring writer left = SameConsumer ring left.ring × Writes (
 abbrev pub WritesHanded : {W : Type 0} → (W → SinkState) → Bool → Consumer Sent Global AnyItems → List (Option W) → Option (WriteLeft W) → Type 0
 WritesHanded {W} sink keeps ring handed done = MatchOption done (handed ≡ None ∷ []) (λ left. (writer : W) × (handed ≡ Some writer ∷ []) × WritesLink sink keeps ring writer left)
 
--- The worker was handed no listener, and brought nothing; or it brought what the listener gave that it was handed.
-abbrev pub BringsLinks : {S W T : Type 0} → (S → W → LinkState) → (T → Link S W → T → Type 0) → List (Option T) → List (Link S W) → Type 0
+-- The worker was handed no listener, and brought nothing; or it brought all that the listener gave that it was handed.
+abbrev pub BringsLinks : {S W T : Type 0} → (S → W → LinkState) → (T → Option (Link S W) → T → Type 0) → List (Option T) → List (Link S W) → Type 0
 BringsLinks {T = T} ends gives handed links =
     ((handed ≡ None ∷ []) × (links ≡ []))
-    ⊎ ((listener : T) × (handed ≡ Some listener ∷ []) × (last : T) × Gives ends gives listener links last)
+    ⊎ ((listener : T) × (handed ≡ Some listener ∷ []) × (last : T) × GivesAll ends gives listener links last)
 
--- The listener gave links, and these are the first of them.
-pub record HaveCome {S W T : Type 0} (ends : S → W → LinkState) (gives : T → Link S W → T → Type 0) (listener : T) (come : List (Link S W)) : Type 0 where
+-- The listener gave links until there were no more, and these are the first of them.
+pub record HaveCome {S W T : Type 0} (ends : S → W → LinkState) (gives : T → Option (Link S W) → T → Type 0) (listener : T) (come : List (Link S W)) : Type 0 where
   pub links : List (Link S W)
   pub last : T
-  pub gave : Gives ends gives listener links last
+  pub gave : GivesAll ends gives listener links last
   pub rest : List (Link S W)
   pub first : come ++ rest ≡ links

@@ -1,5 +1,5 @@
 -- Links that a listener gave, and a worker brought.
-use Rattle.std.proofs.Common.{◌≡◌, List, [], ◌∷◌, ◌++◌, refl, ap, subst}
+use Rattle.std.proofs.Common.{◌≡◌, List, [], ◌∷◌, ◌++◌, refl, ap, subst, Option, Some}
 use Rattle.ov_order.specs.declared.items.Brought.{Brought}
 use Rattle.ov_order.specs.declared.items.Brought.TheVariants.{Message, End}
 use Rattle.ov_workers.specs.declared.link.Link.{Link}
@@ -11,8 +11,8 @@ links_append [] ys = refl
 links_append (Message link ∷ xs) ys = ap (λ rest. link ∷ rest) (links_append xs ys)
 links_append (End last ∷ xs) ys = links_append xs ys
 
-module _ {S W T : Type 0} (ends : S → W → LinkState) (gives : T → Link S W → T → Type 0) where
+module _ {S W T : Type 0} (ends : S → W → LinkState) (gives : T → Option (Link S W) → T → Type 0) where
   -- it gave one more
-  pub gives_more : (a : T) (links : List (Link S W)) (b : T) (link : Link S W) (c : T) → Gives ends gives a links b → gives b link c → IsNewLink (ends link.reader link.writer) → Gives ends gives a (links ++ link ∷ []) c
-  gives_more a [] b link c same gave unused = (c, subst (λ (t : T). gives t link c) same gave, unused, refl)
+  pub gives_more : (a : T) (links : List (Link S W)) (b : T) (link : Link S W) (c : T) → Gives ends gives a links b → gives b (Some link) c → IsNewLink (ends link.reader link.writer) → Gives ends gives a (links ++ link ∷ []) c
+  gives_more a [] b link c same gave unused = (c, subst (λ (t : T). gives t (Some link) c) same gave, unused, refl)
   gives_more a (k ∷ links) b link c (next, first, new, rest) gave unused = (next, first, new, gives_more next links b link c rest gave unused)

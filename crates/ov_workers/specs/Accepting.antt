@@ -14,10 +14,14 @@ links_in (Message link ∷ items) = link ∷ links_in items
 links_in (End last ∷ items) = links_in items
 
 -- The listener gave these, one after another, and this is what it was after that. Nothing had gone over any of them.
-abbrev pub Gives : {S W T : Type 0} → (S → W → LinkState) → (T → Link S W → T → Type 0) → T → List (Link S W) → T → Type 0
+abbrev pub Gives : {S W T : Type 0} → (S → W → LinkState) → (T → Option (Link S W) → T → Type 0) → T → List (Link S W) → T → Type 0
 Gives ends gives listener [] last = last ≡ listener
 Gives {T = T} ends gives listener (link ∷ links) last =
-    (next : T) × gives listener link next × IsNewLink (ends link.reader link.writer) × Gives ends gives next links last
+    (next : T) × gives listener (Some link) next × IsNewLink (ends link.reader link.writer) × Gives ends gives next links last
+
+-- The listener gave these, and then answered that there are no more; this is what it was after that.
+abbrev pub GivesAll : {S W T : Type 0} → (S → W → LinkState) → (T → Option (Link S W) → T → Type 0) → T → List (Link S W) → T → Type 0
+GivesAll {T = T} ends gives listener links last = (before : T) × Gives ends gives listener links before × gives before None last
 
 -- ---- the desk's side of the worker, if there is one
 

@@ -1,6 +1,6 @@
 ghost use Rattle.std.specs.Prelude.{◌≡◌, []};
 ghost use Rattle.rtrb.specs.Ring.{sent, SameProducer};
-ghost use Rattle.ov_workers.specs.Accepting.{Gives, links_in};
+ghost use Rattle.ov_workers.specs.Accepting.{GivesAll, links_in};
 ghost use Rattle.ov_workers.specs.LinkStates.{ends_of};
 
 use crate::common::Common;
@@ -34,7 +34,7 @@ where
     T: Listen<S, W> + Drop,
     requires fresh { sent ring ≡ [] }
     ensures ring { SameProducer ring result }
-    ensures gives { (last : T) × Gives (ends_of S.Source W.Sink) T.gives listener
+    ensures gives { (last : T) × GivesAll (ends_of S.Source W.Sink) T.gives listener
         (links_in (sent result)) last }
 {
     let mut listener = listener;

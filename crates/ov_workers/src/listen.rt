@@ -1,4 +1,4 @@
-ghost use Rattle.std.specs.Prelude.{IfSome};
+ghost use Rattle.std.specs.Prelude.{Option, IfSome};
 ghost use Rattle.ov_workers.specs.LinkStates.{IsNewLink, ends_of};
 ghost use Rattle.ov_workers.specs.declared.link.Link.{Link as SpecLink};
 
@@ -7,13 +7,13 @@ use ov_ends::{Sink, Source};
 
 /// Gives connections, one after another.
 pub trait Listen<S: Source, W: Sink> {
-    /// The listener before, the link that it gives, and the listener after.
-    ghost gives: { Self → SpecLink S W → Self → Type 0 };
+    /// The listener before, its answer, which is a link or that there are no more, and the listener after.
+    ghost gives: { Self → Option (SpecLink S W) → Self → Type 0 };
 
     /// The two ends of the next connection, once there is one. Nothing was read from it or written to it. None if there are
     /// no more; the listener is then dropped.
     fn accept(&mut self) -> Option<Link<S, W>>
-        ensures gives { IfSome result (λ link. gives self.old link self.new) }
+        ensures gives { gives self.old result self.new }
         ensures unused { IfSome result
             (λ link. IsNewLink (ends_of S.Source W.Sink link.reader link.writer)) };
 }
