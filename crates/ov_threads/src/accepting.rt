@@ -23,8 +23,8 @@ pub struct AcceptDone<S, W, T> {
     pub ring: Producer<Accepted<S, W>>,
 }
 
-/// What the accepting worker's thread promises of what it returns: that it brought what the listener gave that it was handed,
-/// and nothing else.
+/// What the accepting worker's thread promises of what it returns: that it brought all that the listener gave that it was
+/// handed, until that had no more, and nothing else.
 #[derive(Drop)]
 pub struct Accepts<S, W, T> {
     /// Its end of the ring through which it is handed a listener.
@@ -139,8 +139,8 @@ impl<S: Source + Drop, W: Sink + Drop, T: Listen<S, W> + Drop> Accepting<S, W, T
         self.hand.push_reserved(Some(listener));
     }
 
-    /// Joins the thread, to which a listener was handed, once that gives no more. What the desk took from the ring are links
-    /// that the listener gave, one after another from the first.
+    /// Joins the thread, to which a listener was handed, once that gives no more. What the desk took from the ring are the
+    /// first of the links that the listener gave until then, one after another.
     pub fn join<R: Threads>(self, rt: &R, arrivals: Arrivals<S, W>)
         requires { IsPair self.handle.promise.ring.value arrivals.ring }
         ensures { (listener : T) → sent self.hand ≡ Some listener ∷ []

@@ -9,8 +9,7 @@ use Rattle.ov_workers.proofs.accept.accept_worker.Goals as goal
 pub returns-in_default-clause-gives : goal.returns-in_default-clause-gives
 returns-in_default-clause-gives g c =
     let items = sent c.loop.ring in
-    let same = ap links_in {x = sent c.bring.new.ring} {y = items ++ End tt ∷ []} c.bring.ensures.sent ∙ (links_append items (End tt ∷ []) ∙ append-nil (links_in items)) in
-    (
+    let same = ap links_in {x = sent c.bring.new.ring} {y = items ++ End tt ∷ []} c.bring.ensures.sent ∙ (links_append items (End tt ∷ []) ∙ append-nil (links_in items)) in (
       c.accept.new.self,
       (
         c.loop.listener,
