@@ -2,7 +2,7 @@
 use Rattle.std.proofs.Common.{◌≡◌, ◌⊎◌, inl, inr, ℕ, ◌+◌, ◌<◌, ◌≤◌, List, [], ◌∷◌, ◌++◌, length, length-append, get_or, slice_set, get_or-set_other, refl, sym, ap, subst, ◌∙◌, append_assoc, append-nil, Bool, false, Option, Some, None, arith}
 use Rattle.std.specs.Option.{option_or}
 use Rattle.std.proofs.lemmas.Bool.{cases_eq}
-use Rattle.std.proofs.lemmas.Grind.{flat_map-append}
+use Rattle.std.proofs.lemmas.Grind.{flat_map-append, get_or-set_at}
 use Rattle.std.proofs.lemmas.Option.{same_Some}
 use Rattle.rtrb.specs.Ring.{sent, received}
 use Rattle.ov_specs.specs.wire.Message.{Message}
@@ -11,16 +11,19 @@ use Rattle.ov_specs.specs.machine.Machine.{State, Entry, Stepped, is_open, openi
 use Rattle.ov_specs.specs.machine.History.{run, requests, taken_by, frames_to, closed_by}
 use Rattle.ov_specs.proofs.laws.Histories.{closed_by_append}
 use Rattle.ov_specs.proofs.laws.Queueing.{run_in_order}
+use Rattle.ov_outbox.specs.Frames.{waiting_for}
 use Rattle.ov_outbox.proofs.Answered.{frames_to-append}
+use Rattle.ov_sessions.specs.declared.session.Session.{Session}
 use Rattle.ov_core.specs.Following.{CoreState, with_clock}
 use Rattle.ov_core.proofs.Counted.{counts_on}
 use Rattle.ov_lanes.specs.Courses.{Course}
 use Rattle.ov_lanes.specs.Fitting.{FitsCourse}
 use Rattle.ov_lanes.specs.Since.{Since, course_of}
-use Rattle.ov_lanes.specs.Lanes.{IsAt, AreOver, SameLane, PutsAlone, StayAs, Serves, ServesOn, DeskGoesOn}
+use Rattle.ov_lanes.specs.Lanes.{IsAt, AreFlushed, AreOver, SameLane, PutsAlone, StayAs, Serves, ServesOn, DeskGoesOn}
+use Rattle.ov_lanes.specs.declared.desk.Desk.{Desk}
 use Rattle.ov_lanes.specs.declared.lane.Lane.{Lane}
 use Rattle.ov_workers.specs.declared.link.Link.{Link}
-use Rattle.ov_lanes.proofs.PlaceLaws.{none_some, some_after, goes_none}
+use Rattle.ov_lanes.proofs.PlaceLaws.{none_some, some_before, some_after, goes_none}
 use Rattle.ov_lanes.proofs.Silence.{known_in_order}
 use Rattle.ov_lanes.proofs.Timing.{timed_append, timed_more, tells_more}
 use Rattle.ov_desk.specs.Ending.{EndsAs, EndsAfter, finish_for}
@@ -28,7 +31,7 @@ use Rattle.ov_workers.specs.Accepting.{SameArrivals, arrived}
 use Rattle.ov_threads.specs.Handing.{HaveCome}
 use Rattle.ov_workers.specs.LinkStates.{LinkState}
 use Rattle.ov_desk.specs.Outcome.{Finish}
-use Rattle.ov_desk.specs.Guests.{IsGuest, ServesGuests, HasLeft, StayOrLeave, SameSession, HaveLeft, HasPlace, AreHosted, HostsOn, HostsBy}
+use Rattle.ov_desk.specs.Guests.{IsGuest, ServesGuests, HasLeft, StayOrLeave, WereThere, SameSession, HaveLeft, HasPlace, AreHosted, HostsOn, HostsBy}
 use Rattle.ov_desk.specs.Lists.{AreAmong, EachFrom}
 use Rattle.ov_desk.specs.Seats.{HaveLink, WorkAt}
 use Rattle.ov_desk.specs.Serving.{IsTended}
@@ -173,6 +176,36 @@ module _ {S W L : Type 0} (ends : S → W → LinkState) where
     | inl (m, there, works', t) ↦ absurd (none_some m (sym (free at) ∙ there))
     | inr left ↦ left
   ]
+
+-- ---- lanes that were there
+
+pub there_none : (ls : List (Option Lane)) → WereThere IsTended ls ls
+there_none ls at m is = (m, is, (refl, refl, refl, refl, refl, refl))
+
+pub there_tended : (ls ms : List (Option Lane)) → StayAs IsTended ls ms → WereThere IsTended ls ms
+there_tended ls ms s at m is = some_before IsTended (get_or ls at None) (get_or ms at None) m (s.each at) is
+
+pub there_along : (ls ms ns : List (Option Lane)) → WereThere IsTended ls ms → WereThere IsTended ms ns → WereThere IsTended ls ns
+there_along ls ms ns x y at n is =
+    let m = y at n is in let l = x at m.0 m.1 in let t = l.2 in let t' = m.2 in
+    (l.0, l.1, (t'.0 ∙ t.0, t'.1 ∙ t.1, t'.2 ∙ t.2, t'.3 ∙ t.3, t'.4 ∙ t.4, t'.5 ∙ t.5))
+
+-- a place was freed
+pub there_freed : (ls : List (Option Lane)) (i : ℕ) → i < length ls → WereThere IsTended ls (slice_set ls i None)
+there_freed ls i low at m is = elim (cases_eq at i) [
+  | inl e ↦ absurd (none_some m (sym (get_or-set_at ls i at None None e low) ∙ is))
+  | inr ne ↦ (m, sym (get_or-set_other ls i at None None ne) ∙ is, (refl, refl, refl, refl, refl, refl))
+]
+
+-- what waits was moved, and nothing waits after it
+pub flushed_there : {K D : Type 0} (a b : Desk K D) → b.core ≡ a.core → WereThere IsTended a.lanes.items b.lanes.items → AreFlushed a → AreFlushed b
+flushed_there a b same there flushed at m is =
+    let x = there at m is in let t = x.2 in let n = ap (λ (s : Session). s.serial) t.2 in
+    elim (flushed at x.0 x.1) [
+      | inl marked ↦ inl (t.5 ∙ marked)
+      | inr (is_there, none) ↦
+          inr (ap (λ k. is_open k.state m.session.serial) same ∙ (ap (λ k. is_open a.core.state k) n ∙ is_there), ap (λ k. waiting_for m.session.serial k.outbox) same ∙ (ap (λ k. waiting_for k a.core.outbox) n ∙ none))
+    ]
 
 -- ---- guests
 

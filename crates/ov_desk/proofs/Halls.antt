@@ -22,7 +22,7 @@ use Rattle.ov_workers.specs.LinkStates.{LinkState}
 use Rattle.ov_desk.specs.Lists.{AreAmong, EachFrom}
 use Rattle.ov_desk.specs.Seats.{AreSeats, Seating, WorkAt}
 use Rattle.ov_threads.specs.declared.workers.Workers.{Workers}
-use Rattle.ov_desk.proofs.Guests.{leaves_none, leaves_along}
+use Rattle.ov_desk.proofs.Guests.{leaves_none, leaves_along, there_none, there_along}
 use Rattle.ov_desk.specs.Admitting.{Admits}
 use Rattle.ov_desk.specs.declared.admit.Admitted.{Admitted}
 use Rattle.ov_desk.specs.declared.admit.Admitted.TheVariants as admitted
@@ -100,6 +100,7 @@ module _ {K D S W L : Type 0} (ends : S → W → LinkState) where
     many = refl;
     goes = λ moment. goes_none moment a.desk.core a.desk.lanes.items;
     leaves = leaves_none ends a.desk.lanes.items a.workers.items;
+    there = there_none a.desk.lanes.items;
     same = (refl, refl);
     seats = seats;
   }
@@ -110,6 +111,7 @@ module _ {K D S W L : Type 0} (ends : S → W → LinkState) where
     many = y.many ∙ x.many;
     goes = λ moment. goes_along moment a.desk.lanes.items b.desk.lanes.items c.desk.lanes.items (x.goes moment) (y.goes moment);
     leaves = leaves_along ends a.desk.lanes.items b.desk.lanes.items c.desk.lanes.items a.workers.items b.workers.items c.workers.items x.leaves y.leaves;
+    there = there_along a.desk.lanes.items b.desk.lanes.items c.desk.lanes.items x.there y.there;
     same = (y.same.0 ∙ x.same.0, y.same.1 ∙ x.same.1);
     seats = y.seats;
   }

@@ -15,7 +15,7 @@ use Rattle.ov_lanes.specs.declared.desk.Desk.{Desk}
 use Rattle.ov_desk.specs.declared.hall.Hall.{Hall}
 use Rattle.ov_desk.specs.Guests.{IsKept}
 use Rattle.ov_desk.specs.Time.{TakesTime}
-use Rattle.ov_core.specs.Following.{Timed, with_clock}
+use Rattle.ov_core.specs.Following.{CoreState, Timed, with_clock}
 use Rattle.ov_desk.specs.Serving.{ServesLobby, ServesBy, times, AreApart, TakesFor, KeepsPlaces, KeepsHall, TakesNoted, IsTended}
 
 -- ---- places that are kept
@@ -219,18 +219,22 @@ pub time_of : {K D C : Type 0} (tells : C → ℕ → C → Type 0) (old new : T
     → ((reported : ℕ) → AreTimed reported old.core.state opened mid) → Tells tells old.clock moments new.clock → AreTimedBy moments mid more new.core.state → TakesTime tells old entries new
 time_of tells old new mid opened more entries moments parts opens told timed = record { opened = opened; others = more; mid = mid; parts = parts; opens = opens; moments = moments; reported = told; timed = timed }
 
+-- a session that was not open when a core was `start` is not open once the sessions at all places are over
+pub shut_over : {K D : Type 0} (start : CoreState K D) (b : Desk K D) → Serves start b.core b.lanes.items → AreOver b.lanes.items → (n : ℕ) → is_open start.state n ≡ false → is_open b.core.state n ≡ false
+shut_over start b t over n away = elim (cases_Bool (is_open b.core.state n)) [
+  | inl there ↦ elim (t.have_places n there) [
+    | inl was ↦ absurd (false≢true (sym away ∙ was))
+    | inr (j, l, is, serial) ↦ absurd (false≢true (sym ((t.fits j l is).ends (over j l is).0) ∙ (ap (λ k. is_open b.core.state k) serial ∙ there)))
+  ]
+  | inr shut ↦ shut
+]
+
 module _ {K D C : Type 0} (tells : C → ℕ → C → Type 0) (a b : Desk K D) (clock clock' : C) (s : Serves a.core a.core a.lanes.items) (none : s.since.entries ≡ []) where
   -- with these moments
   abbrev pub lobby_by : (moments : List ℕ) → Tells tells clock moments clock' → ServesBy moments s b → AreOver b.lanes.items → ServesLobby tells (with_clock a.core clock) (with_clock b.core clock')
   lobby_by moments told x over = let t = x.after in record {
     since = t.since;
-    closed = λ n away. elim (cases_Bool (is_open b.core.state n)) [
-      | inl there ↦ elim (t.have_places n there) [
-        | inl was ↦ absurd (false≢true (sym away ∙ was))
-        | inr (j, l, is, serial) ↦ absurd (false≢true (sym ((t.fits j l is).ends (over j l is).0) ∙ (ap (λ k. is_open b.core.state k) serial ∙ there)))
-      ]
-      | inr shut ↦ shut
-    ];
+    closed = shut_over a.core b t over;
     earlier = t.earlier;
     time = time_of tells (with_clock a.core clock) (with_clock b.core clock') a.core.state [] x.more t.since.entries moments (x.adds ∙ ap (λ (l : List Entry). l ++ x.more) none) (λ reported. refl) told x.timed;
   }

@@ -1,5 +1,5 @@
 -- What a reader brought, what a writer was sent, and what became of their session, once both ends of each ring are together.
-use Rattle.std.proofs.Common.{◌≡◌, ◌≢◌, ℕ, List, [], ◌∷◌, ◌++◌, length, refl, sym, ap, subst, ◌∙◌, append_assoc, append-nil, arith, Bool, true, false, Option, Some}
+use Rattle.std.proofs.Common.{◌≡◌, ◌≢◌, inl, inr, ℕ, List, [], ◌∷◌, ◌++◌, length, refl, sym, ap, subst, ◌∙◌, append_assoc, append-nil, arith, Bool, true, false, Option, Some}
 use Rattle.std.specs.Prelude.{not, unwrap_or, MatchBool}
 use Rattle.std.proofs.lemmas.Bool.{false≢true}
 use Rattle.ov_specs.specs.wire.Beginning.{BeginsAs}
@@ -24,7 +24,7 @@ use Rattle.ov_lanes.specs.Courses.{Course}
 use Rattle.ov_lanes.specs.Fitting.{Items, brought, end_cause, is_of_reader, is_by_reader, Took, framed, FitsCourse}
 use Rattle.ov_lanes.proofs.Fitting.{knows_marked}
 use Rattle.ov_workers.specs.LinkStates.{link_state}
-use Rattle.ov_desk.specs.Outcome.{SuitsReader, SuitsWriter, Finish, LinkOutcome, account_of}
+use Rattle.ov_desk.specs.Outcome.{FailsOnce, SuitsReader, SuitsWriter, Finish, LinkOutcome, account_of}
 use Rattle.ov_desk.specs.Ending.{CourseEnds}
 
 -- ---- the reader
@@ -66,19 +66,26 @@ asked_whole reads.Damaged messages a of is = ap (λ (b : Asked). b.messages) (sy
 asked_whole reads.Memory messages a of is = absurd (false≢true of)
 
 reader_suits : (cause : ReadCause) (messages : List Message) (a : Asked) (source source' : SourceState) → AreReadUntil cause messages a → SuitsSource cause source source' → SuitsReader (end_cause cause) a.damaged source source'
-reader_suits reads.InputEnded messages a source source' is suits = (ap (λ (b : Asked). b.damaged) is, suits.0, suits.1)
+reader_suits reads.InputEnded messages a source source' is suits = (ap (λ (b : Asked). b.damaged) is, suits.0, suits.1, suits.2)
 reader_suits reads.ReadFault messages a source source' is suits = (ap (λ (b : Asked). b.damaged) is, suits)
-reader_suits reads.Damaged messages a source source' is suits = ap (λ (b : Asked). b.damaged) is
-reader_suits reads.Memory messages a source source' is suits = tt
+reader_suits reads.Damaged messages a source source' is suits = (ap (λ (b : Asked). b.damaged) is, suits)
+reader_suits reads.Memory messages a source source' is suits = inl suits
 
--- a closing for another cause asks nothing of the reader
-others_suit : (why : machine.Cause) (damaged : Bool) (source source' : SourceState) → is_of_reader why ≡ false → SuitsReader why damaged source source'
-others_suit machine.InputEnded damaged source source' not_of = absurd (false≢true (sym not_of))
-others_suit machine.ReadFault damaged source source' not_of = absurd (false≢true (sym not_of))
-others_suit machine.WriteFault damaged source source' not_of = tt
-others_suit machine.Damaged damaged source source' not_of = absurd (false≢true (sym not_of))
-others_suit machine.Overrun damaged source source' not_of = tt
-others_suit machine.Memory damaged source source' not_of = tt
+-- whatever ended the reader
+fails_once : (cause : ReadCause) (source source' : SourceState) → SuitsSource cause source source' → FailsOnce source source'
+fails_once reads.InputEnded source source' suits = inl suits.2
+fails_once reads.ReadFault source source' suits = inr suits
+fails_once reads.Damaged source source' suits = inl suits
+fails_once reads.Memory source source' suits = inl suits
+
+-- a closing for another cause asks no more of the reader
+others_suit : (why : machine.Cause) (damaged : Bool) (source source' : SourceState) → FailsOnce source source' → is_of_reader why ≡ false → SuitsReader why damaged source source'
+others_suit machine.InputEnded damaged source source' once not_of = absurd (false≢true (sym not_of))
+others_suit machine.ReadFault damaged source source' once not_of = absurd (false≢true (sym not_of))
+others_suit machine.WriteFault damaged source source' once not_of = once
+others_suit machine.Damaged damaged source source' once not_of = absurd (false≢true (sym not_of))
+others_suit machine.Overrun damaged source source' once not_of = once
+others_suit machine.Memory damaged source source' once not_of = once
 
 -- what the reader's side of a session comes to
 pub record ReadSide (messages : List Message) (why : machine.Cause) (source source' : SourceState) : Type 0 where
@@ -103,7 +110,7 @@ module _ (asks : List Message) (why : machine.Cause) (source source' : SourceSta
     read = r.read;
     asks = prefix_along asks r.messages (asked r.stream).messages (begins asks r.messages (took.0 ++ known) cause (parts ∙ r.brought)) (asked_begins cause r.messages (asked r.stream) r.asks);
     all_asked = λ of. absurd (false≢true (sym not_of ∙ of));
-    reader = others_suit why (asked r.stream).damaged source source' not_of;
+    reader = others_suit why (asked r.stream).damaged source source' (fails_once cause source source' r.suits) not_of;
     input = r.input;
   }
   brings_side cause r true of =

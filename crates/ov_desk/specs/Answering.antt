@@ -1,5 +1,5 @@
 -- What the calls that serve answer.
-use Rattle.std.specs.Prelude.{◌≡◌, ◌⊎◌, ℕ, List, length, Result, IfOk, IfErr, OnErr}
+use Rattle.std.specs.Prelude.{◌≡◌, ◌⊎◌, ℕ, List, length, Option, Result, IfOk, IfErr, OnErr}
 use Rattle.ov_core.specs.Following.{CoreState, Timed, with_clock}
 use Rattle.ov_lanes.specs.declared.desk.Desk.{Desk}
 use Rattle.ov_workers.specs.declared.link.Link.{Link}

@@ -56,17 +56,22 @@ StayOrLeave {S} {W} {L} holds ends ls ws ms vs =
 abbrev pub SameSession : Lane → Lane → Type 0
 SameSession a b = b.session ≡ a.session
 
+-- each lane was at its place before, as this relation says
+abbrev pub WereThere : (Lane → Lane → Type 0) → List (Option Lane) → List (Option Lane) → Type 0
+WereThere holds ls ms = (at : ℕ) (m : Lane) → IsAt ms at m → (l : Lane) × IsAt ls at l × holds l m
+
 -- each session has left
 abbrev pub HaveLeft : {S W L : Type 0} → (S → W → LinkState) → List (Option Lane) → List (Option (Workers S W L)) → Type 0
 HaveLeft {S} {W} {L} ends ls ws = (at : ℕ) (l : Lane) (w : Workers S W L) → IsAt ls at l → WorkAt ws at w → (link : Link S W) × HaveLink link w × HasLeft ends l link
 
 -- The machine was left alone. Each lane stays at its place, and the bell of its writer may have been rung; or its session has
--- left. The workers at a place fit its lane as before.
+-- left. No other lane is there. The workers at a place fit its lane as before.
 pub record TendsHall {K D S W L : Type 0} (ends : S → W → LinkState) (old new : Hall K D S W L) : Type 0 where
   pub core : new.desk.core ≡ old.desk.core
   pub many : vec_len new.desk.lanes ≡ vec_len old.desk.lanes
   pub goes : (moment : ℕ) → DeskGoesOn moment old.desk new.desk
   pub leaves : StayOrLeave IsTended ends old.desk.lanes.items old.workers.items new.desk.lanes.items new.workers.items
+  pub there : WereThere IsTended old.desk.lanes.items new.desk.lanes.items
   pub same : (new.keeps ≡ old.keeps) × (new.accepted ≡ old.accepted)
   pub seats : AreSeats new
 

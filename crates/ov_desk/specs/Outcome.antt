@@ -1,5 +1,5 @@
 -- What the serving of a session comes to, for its reader and its writer.
-use Rattle.std.specs.Prelude.{◌≡◌, ◌≢◌, ◌<◌, ℕ, ◌++◌, List, Bool, true, false, Option, Some, length}
+use Rattle.std.specs.Prelude.{◌≡◌, ◌≢◌, ◌<◌, ◌⊎◌, ℕ, ◌++◌, List, Bool, true, false, Option, Some, length}
 use Rattle.std.specs.Io.KnownBytes.{IsAtEnd}
 use Rattle.ov_specs.specs.wire.Beginning.{BeginsAs}
 use Rattle.ov_ends.specs.States.{SourceState, SinkState}
@@ -12,15 +12,20 @@ use Rattle.ov_lanes.specs.Courses.{Course}
 use Rattle.ov_lanes.specs.Fitting.{is_of_reader, most_frames}
 use Rattle.ov_workers.specs.LinkStates.{LinkState}
 
--- what the reader reports when its end closes the session: the input ended and its stream is whole; or a read failed; or its
--- stream is damaged
+-- at most one read failed
+abbrev pub FailsOnce : SourceState → SourceState → Type 0
+FailsOnce source source' = (source'.faults ≡ source.faults) ⊎ (source'.faults ≡ one_more source.faults)
+
+-- What the reader reports when its end closes the session: the input ended and its stream is whole; or a read failed; or its
+-- stream is damaged. No other read failed. Whatever closes it, at most one read failed.
 abbrev pub SuitsReader : machine.Cause → Bool → SourceState → SourceState → Type 0
-SuitsReader machine.InputEnded damaged source source' = (damaged ≡ false) × (source'.at_end ≡ true) × IsAtEnd source'.remaining
+SuitsReader machine.InputEnded damaged source source' =
+    (damaged ≡ false) × (source'.at_end ≡ true) × IsAtEnd source'.remaining × (source'.faults ≡ source.faults)
 SuitsReader machine.ReadFault damaged source source' = (damaged ≡ false) × (source'.faults ≡ one_more source.faults)
-SuitsReader machine.WriteFault damaged source source' = Unit {0}
-SuitsReader machine.Damaged damaged source source' = damaged ≡ true
-SuitsReader machine.Overrun damaged source source' = Unit {0}
-SuitsReader machine.Memory damaged source source' = Unit {0}
+SuitsReader machine.WriteFault damaged source source' = FailsOnce source source'
+SuitsReader machine.Damaged damaged source source' = (damaged ≡ true) × (source'.faults ≡ source.faults)
+SuitsReader machine.Overrun damaged source source' = FailsOnce source source'
+SuitsReader machine.Memory damaged source source' = FailsOnce source source'
 
 -- what the writer reports: all was written and flushed, or one more write failed
 abbrev pub SuitsWriter : Bool → SinkState → SinkState → Type 0

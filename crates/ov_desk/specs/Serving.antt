@@ -23,10 +23,12 @@ use Rattle.ov_desk.specs.Time.{TakesTime}
 
 -- ---- links
 
--- The links were served by this clock, and this is what the core made of it. Sessions from before are not served.
+-- The links were served by this clock, and this is what the core made of it. Every session that is open was open before, and
+-- sessions from before are not served.
 pub record ServesAll {K D S W C : Type 0} (ends : S → W → LinkState) (tells : C → ℕ → C → Type 0) (old new : Timed K D C) (links : List (Link S W)) (remains : List (End S W)) : Type 0 where
   pub since : Since old.core new.core
   pub all : AllEnd ends since old.core.state.next links remains
+  pub closed : (n : ℕ) → is_open old.core.state n ≡ false → is_open new.core.state n ≡ false
   pub earlier : (n : ℕ) → n < old.core.state.next → Spares (course_before old.core n) (course_of since n)
   pub time : TakesTime tells old since.entries new
 

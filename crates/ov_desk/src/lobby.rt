@@ -1,4 +1,4 @@
-ghost use Rattle.std.specs.Prelude.{◌≡◌, ◌-◌, ◌^◌, [], Some, IfOk, IfErr};
+ghost use Rattle.std.specs.Prelude.{◌≡◌, ◌-◌, ◌^◌, [], Some, IfOk, IfErr, vec_len};
 ghost use Rattle.rtrb.specs.Ring.{sent, IsPair};
 ghost use Rattle.ov_lanes.specs.Lanes.{AreFree, Serves};
 ghost use Rattle.ov_lanes.specs.declared.fault.ServeFault.TheVariants as fault;
@@ -70,6 +70,7 @@ fn take_room<S: Source + Drop, W: Sink + Drop, L: Ledger, T: Drop>(
     book: Book<L>,
 ) -> Result<Room<S, W, L, T>, AllocError>
     requires { book.total ≡ 0 }
+    ensures bells { IfOk result (λ room. vec_len room.bells ≡ 64) }
     ensures places { IfOk result
         (λ room. AreEmpty 64 room.lanes.items × AreEmpty 64 room.workers.items) }
     ensures ring { IfOk result
@@ -115,7 +116,8 @@ fn shows_none_served<K: Keeper + Drop, D: Draws + Drop>(desk: &Desk<K, D>)
     let _ = desk.core.history();
 }
 
-/// Starts the accepting worker, serves the connections it accepts with the desk in this thread, and joins all workers.
+/// Starts the accepting worker, serves the connections it accepts with the desk in this thread, and joins all workers. There is
+/// a bell for each place, and for each session that may be opened a part of the ledger.
 fn serve_scoped<'s, E, R, K, D, L, G, S, W, T, C>(
     common: Common<'s, R, L, G>,
     scope: &Scope<'s, E>,
@@ -136,6 +138,8 @@ where
     C: Clock,
     requires free { AreFree hall.desk.lanes.items }
     requires seats { AreSeats hall }
+    requires bells { vec_len bells.now ≡ vec_len hall.desk.lanes }
+    requires parts { hall.parts.left ≡ 2 ^ 64 - 3 }
     requires ring { (a : SpecArrivals S W) × (hall.accepted ≡ Some a) × IsPair door.ring a.ring
         × (sent door.ring ≡ []) }
     ensures answers { AnswersLobby (ends_of S.Source W.Sink) C.tells T.gives K.is_honest
@@ -189,6 +193,8 @@ where
     C: Clock,
     requires free { AreFree hall.desk.lanes.items }
     requires seats { AreSeats hall }
+    requires bells { vec_len bells.now ≡ vec_len hall.desk.lanes }
+    requires parts { hall.parts.left ≡ 2 ^ 64 - 3 }
     requires ring { (a : SpecArrivals S W) × (hall.accepted ≡ Some a) × IsPair door.ring a.ring
         × (sent door.ring ≡ []) }
     ensures answers { AnswersLobby (ends_of S.Source W.Sink) C.tells T.gives K.is_honest
@@ -201,6 +207,8 @@ where
         move |scope| -> (Result<Desk<K, D>, RefusedLobby<K, D, T>>, &mut C)
             requires free { AreFree hall.desk.lanes.items }
             requires seats { AreSeats hall }
+            requires bells { vec_len bells.now ≡ vec_len hall.desk.lanes }
+            requires parts { hall.parts.left ≡ 2 ^ 64 - 3 }
             requires ring { (a : SpecArrivals S W) × (hall.accepted ≡ Some a)
                 × IsPair door.ring a.ring × (sent door.ring ≡ []) }
             ensures answers { AnswersLobby (ends_of S.Source W.Sink) C.tells T.gives K.is_honest

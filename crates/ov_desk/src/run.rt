@@ -1,7 +1,7 @@
-ghost use Rattle.std.specs.Prelude.{◌≡◌, ◌++◌, ◌∷◌, [], ℕ, List, None, Option, option_to_list};
-ghost use Rattle.std.specs.Prelude.{MatchOption};
+ghost use Rattle.std.specs.Prelude.{◌≡◌, ◌++◌, ◌∷◌, [], ℕ, List, None, Option, true};
+ghost use Rattle.std.specs.Prelude.{MatchOption, option_to_list};
 ghost use Rattle.ov_specs.specs.machine.Machine.{due};
-ghost use Rattle.ov_lanes.specs.Lanes.{AreOver, DeskGoesOn, IsSteady, SameLane, StayAs};
+ghost use Rattle.ov_lanes.specs.Lanes.{AreFlushed, AreOver, DeskGoesOn, IsSteady, SameLane, StayAs};
 ghost use Rattle.ov_desk.specs.Guests.{HostsBy, HostsOn, ServesEach, ServesNote, StayOrLeave, TakesNote};
 ghost use Rattle.ov_desk.specs.Guests.{notes_in};
 ghost use Rattle.ov_workers.specs.LinkStates.{ends_of};
@@ -39,6 +39,7 @@ fn turn_once_seen<R: Wait, K: Keeper + Drop, D: Draws + Drop>(
     ensures goes { DeskGoesOn moment desk.old desk.new }
     ensures rings { StayAs SameLane desk.old.lanes.items desk.new.lanes.items }
     ensures taken { TakesNoted serial desk.old.lanes.items result desk.new.lanes.items }
+    ensures flushed { result ≡ true → AreFlushed desk.new }
     ensures steady { IsSteady K.is_honest desk.old.core desk.new.core }
 {
     if place_of(&desk.lanes, serial).is_none() {
@@ -108,6 +109,7 @@ where
     requires seats { AreSeats hall.old }
     ensures hosts { HostsOn (ends_of S.Source W.Sink) moment hall.old hall.new }
     ensures noted { TakesNote (ends_of S.Source W.Sink) note hall.old result hall.new }
+    ensures flushed { result ≡ true → AreFlushed hall.new.desk }
     ensures kept { KeepsHall (note ∷ []) hall.old hall.new }
     ensures seats { AreSeats hall.new }
     ensures honest { K.is_honest hall.new.desk.core.keeper → K.is_honest hall.old.desk.core.keeper }
@@ -119,14 +121,14 @@ where
     turn_once_seen(common.rt, common.alloc, &mut hall.desk, moment, note)
 }
 
-/// Serves a note at the moment that the clock reports: advances time to it if a transaction is due, takes the item, and
-/// moves what waits for all sessions. Without a note no item is taken.
-fn serve_note<'s, E, R, K, D, L, G, S, W>(
+/// Serves a note at the moment that the clock reports now that the note was taken: advances time to it if a transaction is
+/// due, takes the item, and moves what waits for all sessions. Without a note no item is taken.
+fn serve_note<'s, E, R, K, D, L, G, S, W, C>(
     common: Common<'s, R, L, G>,
     scope: &Scope<'s, E>,
     bells: &'s Vec<Bell>,
     hall: &mut Hall<K, D, S, W, L>,
-    moment: u64,
+    clock: &mut C,
     note: Option<u64>,
 )
 where
@@ -137,13 +139,17 @@ where
     G: Gate + Sync,
     S: Source + Send + Drop + 's,
     W: Sink + Send + Drop + 's,
+    C: Clock,
     requires seats { AreSeats hall.old }
-    ensures hosts { HostsOn (ends_of S.Source W.Sink) moment hall.old hall.new }
+    ensures hosts { (moment : ℕ) × C.tells clock.old moment clock.new
+        × HostsOn (ends_of S.Source W.Sink) moment hall.old hall.new }
     ensures noted { ServesNote (ends_of S.Source W.Sink) note hall.old hall.new }
+    ensures flushed { AreFlushed hall.new.desk }
     ensures kept { KeepsHall (option_to_list note) hall.old hall.new }
     ensures seats { AreSeats hall.new }
     ensures honest { K.is_honest hall.new.desk.core.keeper → K.is_honest hall.old.desk.core.keeper }
 {
+    let moment = clock.now();
     // If an allocation fails here, the transactions get their turn with the next note.
     let _ = hall.desk.core.pass_where_due(common.alloc, moment);
     let is_flushed = match note {
@@ -226,7 +232,7 @@ where
         }
         let note = next_note(common, &hall.desk.core, taken, is_busy);
         is_busy = note.is_some();
-        serve_note(common, scope, bells, hall, clock.now(), note);
+        serve_note(common, scope, bells, hall, clock, note);
     }
     unreachable!()
 }

@@ -1,4 +1,5 @@
 ghost use Rattle.std.specs.Prelude.{◌≡◌, [], false, IfOk};
+ghost use Rattle.std.specs.Io.Buffered.{writer_capacity};
 ghost use Rattle.ov_ends.specs.States.{source_of, source_state, sink_of, sink_state};
 
 use crate::clock::MonotonicClock;
@@ -30,6 +31,7 @@ pub fn pipes_over<'a, R: SystemClock, I: Read + Drop, O: Write + Drop>(
         ≡ source_state [] (I.remaining input) false 0) }
     ensures writer { IfOk result (λ pipes. sink_of ⟦<Watched<BufWriter<O>> as Sink>⟧ pipes.writer
         ≡ sink_state [] (O.contents output) false 0) }
+    ensures buffer { IfOk result (λ pipes. writer_capacity pipes.writer.inner ≡ 8192) }
     ensures clock { IfOk result (λ pipes. pipes.clock.last ≡ 0) }
 {
     let Ok(output) = BufWriter::new(alloc, output) else {

@@ -1,10 +1,14 @@
 -- What the program makes of its arguments.
 use Rattle.std.specs.Prelude.{◌≡◌, ℕ, List, Option, Some, None, IfNone, MatchOption}
+use Rattle.std.specs.declared.io.ErrorKind.{ErrorKind}
+use Rattle.std.specs.declared.io.ErrorKind.TheVariants.{OutOfMemory}
 use Rattle.serde_json.specs.Written.{compact_text}
 use Rattle.sqlite_disk.specs.declared.Disk as disk
 use Rattle.sqlite_store.specs.declared.store.FileStore.{FileStore}
 use Rattle.sqlite_wal.specs.Recovery.{Image}
 use Rattle.ov_store.specs.StoreState.{StoreState}
+use Rattle.ov_words.specs.declared.ending.Ending.{Ending}
+use Rattle.ov_words.specs.declared.ending.Ending.TheVariants.{Arguments, Memory}
 use Rattle.ov_words.specs.declared.settings.Settings.{Settings}
 use Rattle.ov_words.specs.Words.{settings_of}
 use Rattle.ov_listen.specs.Pipes.{PipesState}
@@ -16,6 +20,11 @@ use Rattle.ov_listen.specs.Databases.{EndsMemory, IsInFile, IsInMemory, MemorySt
 use Rattle.ov_listen.specs.Files.{EndsFile}
 use Rattle.ov_listen.specs.Environment.{Environment}
 use Rattle.ov_server.specs.Schemas.{IsBuiltIn}
+
+-- the ending if the system gives no arguments, for an error of this kind
+abbrev pub by_lacking_words : ErrorKind → Ending
+by_lacking_words OutOfMemory = Memory
+by_lacking_words _ = Arguments
 
 -- where sessions are served: at the address, if one is named
 abbrev pub endpoint_of : Option (List ℕ) → Option ℕ → Endpoint

@@ -5,7 +5,7 @@ ghost use Rattle.sqlite_wal.specs.Files.{image_at};
 ghost use Rattle.ov_words.specs.Words.{settings_of};
 ghost use Rattle.ov_listen.specs.Pipes.{pipes_state};
 ghost use Rattle.ov_listen.specs.Environment.{environment_of};
-ghost use Rattle.ov_server.specs.Running.{IsServiceAsked, RunsDatabase, endpoint_of};
+ghost use Rattle.ov_server.specs.Running.{IsServiceAsked, RunsDatabase, by_lacking_words, endpoint_of};
 ghost use Rattle.ov_server.specs.Schemas.{IsBuiltIn};
 
 use crate::database::built_in_schema;
@@ -33,6 +33,16 @@ use std::rt::{Clock as SystemClock, Files};
 use std::sync::Wait;
 use std::thread::Threads;
 
+/// How the program ends if the system gives no arguments, for an error of this kind: for example, one is not UTF-8.
+fn ending_without_words(kind: ErrorKind) -> Ending
+    ensures { result ≡ by_lacking_words kind }
+{
+    match kind {
+        ErrorKind::OutOfMemory => Ending::Memory,
+        _ => Ending::Arguments,
+    }
+}
+
 /// The program's arguments, the first of which is its name. No contract says what they are: the kit names none.
 pub fn words_of<R: Env + AllocGlobal>(rt: &R) -> Result<Vec<String>, Ending>
     ensures { IfErr result (λ ending. (ending ≡ Ending.Memory) ⊎ (ending ≡ Ending.Arguments)) }
@@ -46,8 +56,7 @@ pub fn words_of<R: Env + AllocGlobal>(rt: &R) -> Result<Vec<String>, Ending>
                 }
             }
         }
-        Err(error) if error.kind() == ErrorKind::OutOfMemory => return Err(Ending::Memory),
-        Err(_) => return Err(Ending::Arguments),
+        Err(error) => return Err(ending_without_words(error.kind())),
     }
     Ok(words)
 }
@@ -145,6 +154,8 @@ where
     ensures kinds { IfErr result (λ ending. (ending ≢ Ending.InputEnded)
         × (ending ≢ Ending.Streams)) }
     ensures arguments { result ≡ Err Ending.Arguments → settings_of (map A.text words.now) ≡ None }
+    ensures refused { IfErr result (λ ending. settings_of (map A.text words.now) ≡ None
+        → (ending ≡ Ending.Arguments) ⊎ (ending ≡ Ending.Memory)) }
 {
     let settings = match read_words(host.alloc(), words) {
         Ok(settings) => settings,

@@ -1,11 +1,12 @@
 ghost use Rattle.std.specs.Prelude.{◌≡◌, IfOk};
-ghost use Rattle.ov_sockets.specs.Links.{GivesClient, IsNewClient};
+ghost use Rattle.ov_sockets.specs.Faults.{is_given_up};
+ghost use Rattle.ov_sockets.specs.Links.{ComesTo, GivesClient, IsNewClient};
 
 use crate::fault::ListenFault;
 use ov_ends::Watched;
 use ov_workers::{Link, Listen};
 use std::alloc::Global;
-use std::io::{BufWriter, ErrorKind};
+use std::io::{self, BufWriter, ErrorKind};
 use std::net::{TcpListener, TcpStream};
 
 /// What reads from a connection that closes once both of its ends are dropped.
@@ -36,26 +37,47 @@ impl Listen<ClientReader, ClientWriter> for Clients {
     /// Skips a connection that its client gave up before it was accepted, and closes one at once if the system has no room
     /// for its ends. What is written is sent at once and not gathered (TCP_NODELAY), unless the system refuses that.
     fn accept(&mut self) -> Option<Link<ClientReader, ClientWriter>> {
-        for stream in self.listener.incoming() {
-            match stream {
-                Ok(stream) => {
-                    if let Ok(link) = client_of(self.alloc, stream) {
-                        return Some(link);
-                    }
-                }
-                Err(error) => {
-                    if !is_given_up(error.kind()) {
-                        return None;
-                    }
-                }
+        for answer in self.listener.incoming() {
+            match next_of(self.alloc, answer) {
+                Next::Client(link) => return Some(link),
+                Next::Failed => {}
+                Next::Over => return None,
             }
         }
         None
     }
 }
 
+/// What the system's answer to a listener comes to.
+#[derive(Drop)]
+enum Next {
+    /// A client.
+    Client(Link<ClientReader, ClientWriter>),
+    /// Only this one connection failed.
+    Failed,
+    /// No more can come.
+    Over,
+}
+
+/// What the system's answer comes to. A connection for whose ends the system has no room, or for which an allocation fails, is
+/// closed.
+fn next_of(alloc: Global, answer: io::Result<TcpStream>) -> Next
+    ensures { ComesTo answer result }
+{
+    match answer {
+        Ok(stream) => match client_of(alloc, stream) {
+            Ok(link) => Next::Client(link),
+            Err(_) => Next::Failed,
+        },
+        Err(error) if is_given_up(error.kind()) => Next::Failed,
+        Err(_) => Next::Over,
+    }
+}
+
 /// Whether only this one connection failed.
-fn is_given_up(kind: ErrorKind) -> bool {
+fn is_given_up(kind: ErrorKind) -> bool
+    ensures { result ≡ is_given_up kind }
+{
     matches!(
         kind,
         ErrorKind::ConnectionAborted | ErrorKind::ConnectionReset | ErrorKind::Interrupted

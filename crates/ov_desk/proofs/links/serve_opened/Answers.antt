@@ -9,7 +9,7 @@ use Rattle.ov_lanes.proofs.PlaceLaws.{serves_opened}
 use Rattle.ov_desk.specs.Seats.{IsSeatOf}
 use Rattle.ov_desk.proofs.Pairs.{threes_counts}
 use Rattle.ov_desk.proofs.Ends.{count_new, count_stays, all_end}
-use Rattle.ov_desk.proofs.Running.{kept_same, time_of}
+use Rattle.ov_desk.proofs.Running.{kept_same, shut_over, time_of}
 use Rattle.ov_desk.proofs.Seats.{seats_of, seats_later}
 use Rattle.ov_desk.proofs.links.serve_opened.Goals as goal
 
@@ -58,6 +58,7 @@ returns-clause-served g c old o =
     rw c.new-desk.ensures.core (record {
       since = after.since;
       all = all_end (ends_of g.S.Source g.W.Sink) after.since old.state.next (omega arith) c.args.links.items ms c.finish_all-ends.result.items after.fits (count_stays old.state.next ls ms stay (count_new old.state.next ls t.0)) ends;
+      closed = shut_over old c.run.new.hall.desk after c.run.ensures.over;
       earlier = after.earlier;
       time = time_of g.C.Clock.tells (with_clock old c.args.clock.now) (with_clock core c.run.new.clock) c.args.core.state opens.since.entries x.more after.since.entries by.moments
           (x.adds ∙ ap (λ l. l ++ x.more) (ap (λ r. r.entries) s.is)) opens.timed by.reported x.timed;

@@ -8,15 +8,21 @@ scoped-served-requires g c = record {
     (
       c.requires.seats,
       (
-        c.requires.ring,
+        c.requires.bells,
         (
-          (let bound = c.type_bounds.send-L in search sendable depth 10),
-          (let bound = c.type_bounds.send-S in search sendable depth 10),
-          (let bound = c.type_bounds.send-W in search sendable depth 10),
-          (let bound = c.type_bounds.send-T in search sendable depth 10),
-          (let bound = c.type_bounds.sync-R in search sendable depth 10),
-          (let bound = c.type_bounds.sync-L in search sendable depth 10),
-          (let bound = c.type_bounds.sync-G in search sendable depth 10),
+          c.requires.parts,
+          (
+            c.requires.ring,
+            (
+              (let bound = c.type_bounds.send-L in search sendable depth 10),
+              (let bound = c.type_bounds.send-S in search sendable depth 10),
+              (let bound = c.type_bounds.send-W in search sendable depth 10),
+              (let bound = c.type_bounds.send-T in search sendable depth 10),
+              (let bound = c.type_bounds.sync-R in search sendable depth 10),
+              (let bound = c.type_bounds.sync-L in search sendable depth 10),
+              (let bound = c.type_bounds.sync-G in search sendable depth 10),
+            ),
+          ),
         ),
       ),
     ),

@@ -20,9 +20,10 @@ loop-preserved g c =
     let was = c.loop.invariant in let note = option_to_list c.next_note-note.result in
     let a = c.args.hall.now in let b = c.loop.hall in let h = c.serve_note.new.hall in
     let first = c.args.taken.now.serials in let before = c.loop.taken.serials in let after = c.next_note-note.new.taken.serials in
+    let served = c.serve_note.ensures.hosts in
     let told : after ≡ before ++ note = briefly before after c.next_note-note.result c.next_note-note.ensures in
     record {
-      hosts = hosts_more (ends_of g.S.Source g.W.Sink) g.C.Clock.tells a b h c.args.clock.now c.loop.clock c.now.new.self c.now.result was.hosts c.now.ensures c.serve_note.ensures.hosts;
+      hosts = hosts_more (ends_of g.S.Source g.W.Sink) g.C.Clock.tells a b h c.args.clock.now c.loop.clock c.serve_note.new.clock served.0 was.hosts served.1 served.2;
       noted = (
         was.noted.0 ++ c.next_note-note.result ∷ [],
         taken_more first before after was.noted.0 c.next_note-note.result was.noted.1 told,

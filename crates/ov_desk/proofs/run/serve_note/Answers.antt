@@ -1,6 +1,8 @@
-use Rattle.std.proofs.Common.{[], refl, sym, ap, subst, append-nil}
+use Rattle.std.proofs.Common.{rules, ◌≡◌, [], true, refl, sym, ap, subst, ◌∙◌, append-nil}
+use Rattle.std.proofs.lemmas.Bool.{false≢true}
 use Rattle.std.specs.Prelude.{option_to_list}
 use Rattle.ov_core.specs.Following.{CoreState}
+use Rattle.ov_lanes.specs.Lanes.{AreFlushed}
 use Rattle.ov_lanes.proofs.Courses.{passes}
 use Rattle.ov_lanes.proofs.PlaceLaws.{goes_passed}
 use Rattle.ov_lanes.proofs.Steady.{passes_next}
@@ -8,7 +10,7 @@ use Rattle.ov_desk.specs.Guests.{HostsOn, TakesNotes, session_notes}
 use Rattle.ov_workers.specs.LinkStates.{ends_of}
 use Rattle.ov_desk.specs.Seats.{AreSeats}
 use Rattle.ov_desk.specs.Serving.{KeepsHall}
-use Rattle.ov_desk.proofs.Guests.{leaves_none, session_tended, session_puts, hosts_steady, hosts_none, hosts_along}
+use Rattle.ov_desk.proofs.Guests.{leaves_none, flushed_there, session_tended, session_puts, hosts_steady, hosts_none, hosts_along}
 use Rattle.ov_desk.proofs.Noting.{notes_none, notes_left, notes_puts, notes_then, noted_of}
 use Rattle.ov_desk.proofs.Seats.{seats_stay}
 use Rattle.ov_desk.proofs.Running.{hall_along, hall_same, hall_puts, hall_tended, puts_same_all}
@@ -17,7 +19,7 @@ use Rattle.ov_desk.proofs.run.serve_note.Goals as goal
 
 pub returns-clause-hosts : goal.returns-clause-hosts
 returns-clause-hosts g c =
-    let ends = ends_of g.S.Source g.W.Sink in let draws = g.D.Draws.draws in let m = c.args.moment in
+    let ends = ends_of g.S.Source g.W.Sink in let draws = g.D.Draws.draws in let m = c.now-moment.result in
     let o = c.args.hall.now in let ls = o.desk.lanes.items in let ws = o.workers.items in let core = c.pass_where_due.new.self in let p = record o { desk = record o.desk { core = core } } in
     let a = c.match-note.hall in let b = c.if-not-is_flushed.hall in let d = c.tend.new.self in
     let passed : HostsOn ends m o p = hosts_steady ends m o p refl
@@ -35,7 +37,7 @@ returns-clause-hosts g c =
     ] in
     let t = c.tend.ensures.tends in
     let tended = hosts_steady ends m b d t.same.1 (t.goes m) (session_tended ends b.desk.lanes.items d.desk.lanes.items b.workers.items d.workers.items t.leaves) (ap (λ (k : CoreState _ _). k.state.next) t.core) in
-    hosts_along ends m o p d passed (hosts_along ends m p a d taken (hosts_along ends m a b d flushed tended))
+    (m, c.now-moment.ensures, hosts_along ends m o p d passed (hosts_along ends m p a d taken (hosts_along ends m a b d flushed tended)))
 
 pub returns-clause-noted : goal.returns-clause-noted
 returns-clause-noted g c apart =
@@ -66,6 +68,21 @@ returns-clause-noted g c apart =
     ] in
     let b = c.if-not-is_flushed.hall in let d = c.tend.new.self in let ks = d.desk.lanes.items in
     notes_then ends notes ls ns ks (notes_then ends notes ls ms ns taken flushed) (notes_left ends b.keeps ns ks b.workers.items d.workers.items seats c.tend.ensures.tends.leaves)
+
+pub returns-clause-flushed : goal.returns-clause-flushed
+returns-clause-flushed g c =
+    let b = c.if-not-is_flushed.hall.desk in
+    let flushed : AreFlushed b = elim c.if-not-is_flushed.branch [
+      | then-not-is_flushed w ↦ subst (λ h. AreFlushed h.desk) (sym w.hall-is) w.flush.ensures.flushed
+      | else-not-is_flushed w ↦
+          let is : c.match-note.is_flushed ≡ true = (let no = w.if-not-is_flushed.false in search rules) in
+          elim c.match-note.branch [
+            | in-Some v ↦
+                subst (λ h. AreFlushed h.desk) (sym v.hall-is ∙ sym w.hall-is) (v.take_noted-is_flushed.ensures.flushed (sym v.is_flushed-is ∙ is))
+            | in-None v ↦ absurd (false≢true (sym v.is_flushed-is ∙ is))
+          ]
+    ] in
+    flushed_there b c.tend.new.self.desk c.tend.ensures.tends.core c.tend.ensures.tends.there flushed
 
 pub returns-clause-kept : goal.returns-clause-kept
 returns-clause-kept g c =

@@ -30,6 +30,9 @@ returns-then-turn-clause-rings g c = stay_along_same c.args.desk.now.lanes.items
 pub returns-then-turn-clause-taken : goal.returns-then-turn-clause-taken
 returns-then-turn-clause-taken g c = looks_then_takes c.args.serial c.args.desk.now.lanes.items c.loop.desk.lanes.items c.turn.new.self.lanes.items c.loop.invariant.looks c.if-turn.ensures.turns.0
 
+pub returns-then-turn-clause-flushed : goal.returns-then-turn-clause-flushed
+returns-then-turn-clause-flushed g c is = c.if-turn.ensures.turns.1
+
 pub returns-then-turn-clause-steady : goal.returns-then-turn-clause-steady
 returns-then-turn-clause-steady g c = steady_along g.K.Keeper.is_honest c.args.desk.now.core c.loop.desk.core c.turn.new.self.core c.loop.invariant.steady c.turn.ensures.steady
 

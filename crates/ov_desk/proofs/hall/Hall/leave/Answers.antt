@@ -1,11 +1,11 @@
 use Rattle.std.proofs.Common.{rules, List, Option, refl, sym, subst, ◌∙◌, None, slice_set}
 use Rattle.ov_lanes.specs.Lanes.{PlacesGoOn}
 use Rattle.ov_lanes.specs.declared.lane.Lane.{Lane}
-use Rattle.ov_desk.specs.Guests.{StayOrLeave}
+use Rattle.ov_desk.specs.Guests.{StayOrLeave, WereThere}
 use Rattle.ov_workers.specs.LinkStates.{ends_of}
 use Rattle.ov_desk.specs.Seats.{ArePlaces}
 use Rattle.ov_desk.specs.Serving.{IsTended}
-use Rattle.ov_desk.proofs.Guests.{leaves_at, leaves_free}
+use Rattle.ov_desk.proofs.Guests.{leaves_at, leaves_free, there_freed}
 use Rattle.ov_desk.proofs.Halls.{goes_left}
 use Rattle.ov_desk.proofs.Seats.{seats_set, seated_at, seated_works}
 use Rattle.ov_desk.proofs.hall.Hall.leave.Goals as goal
@@ -37,6 +37,7 @@ returns-in_default-clause-leaves g c =
       goes = λ moment. subst (λ (l : List (Option Lane)). PlacesGoOn moment core ls core l) (sym c.take_out-place.ensures.1) (goes_left moment ls c.args.at (search rules) (λ l is. (c.requires.over l is).0));
       leaves = subst (λ (l : List (Option Lane)). StayOrLeave IsTended ends ls ws l c.take_out-seat.new.places.items) (sym c.take_out-place.ensures.1)
           (subst (λ v. StayOrLeave IsTended ends ls ws (slice_set ls c.args.at None) v) (sym c.take_out-seat.ensures.1) (leaves_free ends ls ws c.args.at (sym c.take_out-place.ensures.0 ∙ c.in_default.is)));
+      there = subst (λ (l : List (Option Lane)). WereThere IsTended ls l) (sym c.take_out-place.ensures.1) (there_freed ls c.args.at (search rules));
       same = (refl, refl);
       seats = subst (λ l. ArePlaces was.keeps l c.take_out-seat.new.places.items) (sym c.take_out-place.ensures.1)
           (subst (λ v. ArePlaces was.keeps (slice_set ls c.args.at None) v) (sym c.take_out-seat.ensures.1) (seats_set was.keeps ls was.workers.items c.args.at None None (search rules) refl c.requires.seats));
@@ -59,6 +60,7 @@ returns-clause-leaves g c =
             ended = (c.requires.over lane is).0;
             comes_to = (refl, λ course fits. c.join_workers-left.ensures.ends seat.1.0 seat.1.1 course fits);
           })));
+      there = subst (λ (l : List (Option Lane)). WereThere IsTended ls l) (sym c.take_out-place.ensures.1) (there_freed ls c.args.at (search rules));
       same = (refl, refl);
       seats = subst (λ l. ArePlaces was.keeps l c.take_out-seat.new.places.items) (sym c.take_out-place.ensures.1)
           (subst (λ v. ArePlaces was.keeps (slice_set ls c.args.at None) v) (sym c.take_out-seat.ensures.1) (seats_set was.keeps ls was.workers.items c.args.at None None (search rules) refl c.requires.seats));

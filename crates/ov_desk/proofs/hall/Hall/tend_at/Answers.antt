@@ -3,7 +3,7 @@ use Rattle.std.proofs.lemmas.Option.{same_Some}
 use Rattle.ov_lanes.specs.declared.lane.Lane.{Lane}
 use Rattle.ov_lanes.proofs.PlaceLaws.{goes_along, goes_looked}
 use Rattle.ov_workers.specs.LinkStates.{ends_of}
-use Rattle.ov_desk.proofs.Guests.{leaves_tended, leaves_along}
+use Rattle.ov_desk.proofs.Guests.{leaves_tended, leaves_along, there_tended, there_along}
 use Rattle.ov_desk.proofs.Halls.{tends_none}
 use Rattle.ov_desk.proofs.Running.{tended_all, looks_tended, tended_same_all}
 use Rattle.ov_desk.proofs.Seats.{seats_stay}
@@ -39,6 +39,7 @@ returns-then-not-self-clause-tends g c =
       many = (let many = left.many in let many' = tended.many in search rules);
       goes = λ moment. goes_along moment ls ms ns (goes_looked moment ls ms (looks_tended ls ms tended)) (left.goes moment);
       leaves = leaves_along ends ls ms ns ws ws c.leave.new.self.workers.items (leaves_tended ends ls ms ws tended) left.leaves;
+      there = there_along ls ms ns (there_tended ls ms tended) left.there;
       same = left.same;
       seats = left.seats;
     }
@@ -51,6 +52,7 @@ returns-else-has_left-clause-tends g c =
       many = (let many = tended.many in search rules);
       goes = λ moment. goes_looked moment ls ms (looks_tended ls ms tended);
       leaves = leaves_tended (ends_of g.S.Source g.W.Sink) ls ms c.args.self.now.workers.items tended;
+      there = there_tended ls ms tended;
       same = (refl, refl);
       seats = seats_stay c.args.self.now.keeps ls ms c.args.self.now.workers.items (tended_same_all ls ms tended) c.requires.seats;
     }
