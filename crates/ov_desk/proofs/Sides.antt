@@ -24,7 +24,7 @@ use Rattle.ov_lanes.specs.Courses.{Course}
 use Rattle.ov_lanes.specs.Fitting.{Items, brought, end_cause, is_of_reader, is_by_reader, Took, framed, FitsCourse}
 use Rattle.ov_lanes.proofs.Fitting.{knows_marked}
 use Rattle.ov_workers.specs.LinkStates.{link_state}
-use Rattle.ov_desk.specs.Outcome.{FailsOnce, SuitsReader, SuitsWriter, Finish, LinkOutcome, account_of}
+use Rattle.ov_desk.specs.Outcome.{FailsAtMostOnce, SuitsReader, SuitsWriter, Finish, LinkOutcome, account_of}
 use Rattle.ov_desk.specs.Ending.{CourseEnds}
 
 -- ---- the reader
@@ -72,14 +72,14 @@ reader_suits reads.Damaged messages a source source' is suits = (ap (λ (b : Ask
 reader_suits reads.Memory messages a source source' is suits = inl suits
 
 -- whatever ended the reader
-fails_once : (cause : ReadCause) (source source' : SourceState) → SuitsSource cause source source' → FailsOnce source source'
+fails_once : (cause : ReadCause) (source source' : SourceState) → SuitsSource cause source source' → FailsAtMostOnce source source'
 fails_once reads.InputEnded source source' suits = inl suits.2
 fails_once reads.ReadFault source source' suits = inr suits
 fails_once reads.Damaged source source' suits = inl suits
 fails_once reads.Memory source source' suits = inl suits
 
 -- a closing for another cause asks no more of the reader
-others_suit : (why : machine.Cause) (damaged : Bool) (source source' : SourceState) → FailsOnce source source' → is_of_reader why ≡ false → SuitsReader why damaged source source'
+others_suit : (why : machine.Cause) (damaged : Bool) (source source' : SourceState) → FailsAtMostOnce source source' → is_of_reader why ≡ false → SuitsReader why damaged source source'
 others_suit machine.InputEnded damaged source source' once not_of = absurd (false≢true (sym not_of))
 others_suit machine.ReadFault damaged source source' once not_of = absurd (false≢true (sym not_of))
 others_suit machine.WriteFault damaged source source' once not_of = once

@@ -13,8 +13,8 @@ use Rattle.ov_lanes.specs.Fitting.{is_of_reader, most_frames}
 use Rattle.ov_workers.specs.LinkStates.{LinkState}
 
 -- at most one read failed
-abbrev pub FailsOnce : SourceState → SourceState → Type 0
-FailsOnce source source' = (source'.faults ≡ source.faults) ⊎ (source'.faults ≡ one_more source.faults)
+abbrev pub FailsAtMostOnce : SourceState → SourceState → Type 0
+FailsAtMostOnce source source' = (source'.faults ≡ source.faults) ⊎ (source'.faults ≡ one_more source.faults)
 
 -- What the reader reports when its end closes the session: the input ended and its stream is whole; or a read failed; or its
 -- stream is damaged. No other read failed. Whatever closes it, at most one read failed.
@@ -22,10 +22,10 @@ abbrev pub SuitsReader : machine.Cause → Bool → SourceState → SourceState 
 SuitsReader machine.InputEnded damaged source source' =
     (damaged ≡ false) × (source'.at_end ≡ true) × IsAtEnd source'.remaining × (source'.faults ≡ source.faults)
 SuitsReader machine.ReadFault damaged source source' = (damaged ≡ false) × (source'.faults ≡ one_more source.faults)
-SuitsReader machine.WriteFault damaged source source' = FailsOnce source source'
+SuitsReader machine.WriteFault damaged source source' = FailsAtMostOnce source source'
 SuitsReader machine.Damaged damaged source source' = (damaged ≡ true) × (source'.faults ≡ source.faults)
-SuitsReader machine.Overrun damaged source source' = FailsOnce source source'
-SuitsReader machine.Memory damaged source source' = FailsOnce source source'
+SuitsReader machine.Overrun damaged source source' = FailsAtMostOnce source source'
+SuitsReader machine.Memory damaged source source' = FailsAtMostOnce source source'
 
 -- what the writer reports: all was written and flushed, or one more write failed
 abbrev pub SuitsWriter : Bool → SinkState → SinkState → Type 0

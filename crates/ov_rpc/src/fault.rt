@@ -4,7 +4,8 @@ use thiserror::Error;
 /// Why a text gave no message.
 #[derive(Clone, Copy, Debug, PartialEq, Eq, Error)]
 pub enum RpcFault {
-    /// The text is not UTF-8 or not JSON, or its id has a number that is not a 64-bit integer.
+    /// The text is not UTF-8 or not JSON, nests more than 127 levels deep, or has a number that rounds to no finite double; or
+    /// its id has a number that is not a 64-bit integer.
     #[error("the text is no message")]
     Unreadable,
     /// An allocation failed.

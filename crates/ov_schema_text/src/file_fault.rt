@@ -8,7 +8,7 @@ pub enum SchemaFileFault {
     /// The file does not exist, or could not be read to its end.
     #[error("the file of the schema can't be read")]
     Unread,
-    /// The text is not UTF-8, is not JSON, or nests more than 127 levels deep.
+    /// The text is not UTF-8 or not JSON, nests more than 127 levels deep, or has a number that rounds to no finite double.
     #[error("the schema is no JSON")]
     NotJson,
     /// The tree is not a schema.
