@@ -173,6 +173,8 @@ impl<K: Keeper + Drop, D: Draws + Drop> Core<K, D> {
     pub fn pass_where_due(&mut self, alloc: Global, moment: u64) -> Result<bool, StepFault>
         ensures passes { IfOk result (λ ticks. TicksIf D.draws ticks moment self.old self.new) }
         ensures due { IfOk result (λ ticks. ticks ≡ is_due moment self.old.state) }
+        ensures keeps { IfOk result
+            (λ ticks. IsTrue ticks → AppendsEntry None self.old self.new) }
         ensures refused { IfErr result (λ fault. (self.new ≡ self.old)
             × (is_due moment self.old.state ≡ true) × RefusesStep SpecTick self.old.state fault) }
         ensures honest { K.is_honest self.new.keeper → K.is_honest self.old.keeper }
@@ -271,8 +273,8 @@ impl<K: Keeper + Drop, D: Draws + Drop> Core<K, D> {
         frame
     }
 
-    /// Hands out all frames that wait for the session, joined with nothing in between, even if it is closed. Empty if no
-    /// frame waits for it.
+    /// Hands out all frames that wait for the session, joined with nothing in between, even if it is closed: then it has no
+    /// queue any more. Empty if no frame waits for it.
     pub fn take_output(&mut self, alloc: Global, session: Session) -> Result<Bytes, AllocError>
         ensures all { IfOk result (λ b. b ≡ joined (waiting_for session.serial self.old.outbox)) }
         ensures none_left { OnOk result (waiting_for session.serial self.new.outbox ≡ []) }
@@ -285,6 +287,8 @@ impl<K: Keeper + Drop, D: Draws + Drop> Core<K, D> {
             (and_all_handed given session.serial (waiting_for session.serial self.old.outbox))
             self.new) }
         ensures same { OnOk result (self.new ≡ record self.old { outbox = self.new.outbox }) }
+        ensures forgotten { OnOk result (is_open self.old.state session.serial ≡ false
+            → has_queue session.serial self.new.outbox ≡ false) }
         // If an allocation fails, nothing was handed out.
         ensures refused { OnErr result (self.new ≡ self.old) }
     {

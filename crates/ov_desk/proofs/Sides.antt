@@ -186,6 +186,7 @@ module _ (c : Course) (known : Option Cause) (items rest put : Items) (sent take
         frames = f.puts.2.0;
         sends = f.puts.2.2;
         all_sent = λ of. f.puts.2.3 (ap is_by_reader closed ∙ of);
+        dropped = f.puts.2.4;
         written = w.written;
         writer = w.writer;
         given = w.given;

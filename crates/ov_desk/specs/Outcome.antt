@@ -9,7 +9,7 @@ use Rattle.ov_specs.specs.machine.History.{joined}
 use Rattle.ov_ends.specs.Ends.{one_more, KeepsInput, GivesWritten}
 use Rattle.ov_ends.specs.Writing.{WritesOf}
 use Rattle.ov_lanes.specs.Courses.{Course}
-use Rattle.ov_lanes.specs.Fitting.{is_of_reader, most_frames}
+use Rattle.ov_lanes.specs.Fitting.{is_of_reader, most_frames, AreDroppedForRoom}
 use Rattle.ov_workers.specs.LinkStates.{LinkState}
 
 -- at most one read failed
@@ -49,8 +49,8 @@ pub record Finish : Type 0 where
 
 -- The session was closed for this cause. The messages taken from it are the first that its stream asks for, and all of them
 -- if its reader closed it. What was written are the first of the frames that were sent to it, and all of them if its reader
--- closed it; or a beginning of that if a write failed. A session that did not take what was sent to it was sent more frames
--- than its ring has room for.
+-- closed it or its ring has room for them; or a beginning of that if a write failed. A session that did not take what was sent
+-- to it was sent more frames than its ring has room for.
 pub record LinkOutcome (says : Account) (finish : Finish) (old new : LinkState) : Type 0 where
   pub closed_for : says.closed ≡ Some finish.why
   pub unfailed : finish.why ≢ machine.WriteFault
@@ -63,6 +63,7 @@ pub record LinkOutcome (says : Account) (finish : Finish) (old new : LinkState) 
   pub frames : List (List ℕ)
   pub sends : BeginsAs frames says.sent
   pub all_sent : is_of_reader finish.why ≡ true → frames ≡ says.sent
+  pub dropped : AreDroppedForRoom frames says.sent
   pub written : WritesOf finish.is_whole (joined frames) old.sink.written new.sink.written
   pub writer : SuitsWriter finish.is_whole old.sink new.sink
   pub given : GivesWritten old.sink.written old.sink.contents new.sink.written new.sink.contents

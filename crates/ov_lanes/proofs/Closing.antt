@@ -1,9 +1,9 @@
 -- Sessions that were opened and are closed again.
-use Rattle.std.proofs.Common.{◌≡◌, ◌≢◌, ◌⊎◌, inl, inr, ℕ, ◌+◌, [], refl, sym, ap, subst, ◌∙◌, append-nil, Bool, false, Option, Some, None, arith}
+use Rattle.std.proofs.Common.{◌≡◌, ◌≢◌, ◌⊎◌, inl, inr, ℕ, ◌+◌, List, [], refl, sym, ap, subst, ◌∙◌, append-nil, Bool, false, Option, Some, None, arith}
 use Rattle.std.specs.Option.{option_or}
 use Rattle.std.proofs.lemmas.Bool.{cases_eq, false≢true}
 use Rattle.ov_specs.specs.machine.Machine as machine
-use Rattle.ov_specs.specs.machine.Machine.{Stepped, is_open}
+use Rattle.ov_specs.specs.machine.Machine.{Stepped, Entry, is_open}
 use Rattle.ov_specs.specs.machine.History.{requests}
 use Rattle.ov_specs.proofs.laws.Turns.{turn_close, turn_close_other}
 use Rattle.ov_outbox.specs.Frames.{waiting_for}
@@ -12,11 +12,13 @@ use Rattle.ov_history.specs.History.{HasHistory}
 use Rattle.ov_core.specs.Following.{CoreState}
 use Rattle.ov_core.specs.Stepping.{Closes, closing}
 use Rattle.ov_lanes.specs.Courses.{Course, Spares}
+use Rattle.ov_lanes.specs.Moments.{AreTimed}
 use Rattle.ov_lanes.specs.Since.{Since, HandsOut, course_of}
 use Rattle.ov_lanes.proofs.Courses.{shuts, hands_on}
 use Rattle.ov_lanes.proofs.Own.{spares_along}
 use Rattle.ov_lanes.specs.Opening.{OpensAll, ClosesDown, ClosesAgain, DropsSession, IsIdle, IsGivenUp, IsLeftAlone}
 use Rattle.ov_lanes.proofs.Openings.{opens_none}
+use Rattle.ov_lanes.proofs.Timing.{timed_append}
 
 -- ---- one session
 
@@ -57,6 +59,7 @@ idle_away c (inr given) away = given
 -- what the drop of a session makes of it, of the others, and of the core
 record Dropped {K D : Type 0} {start a : CoreState K D} (p : Since start a) (n : ℕ) (b : CoreState K D) : Type 0 where
   pub after : Since start b
+  pub timed : AreTimed 0 start.state p.entries a.state → AreTimed 0 start.state after.entries b.state
   pub beside : (other : ℕ) → other ≢ n → Spares (course_of p other) (course_of after other)
   pub asks : requests after.entries n ≡ requests p.entries n
   pub own : IsIdle (course_of p n) → IsGivenUp (course_of after n)
@@ -72,6 +75,9 @@ module _ {K D : Type 0} {start a b : CoreState K D} (p : Since start a) (n : ℕ
       let turn = turn_close n a.state (closing a.state.moment n machine.Memory) t closes.moves.stepped machine.Memory refl in
       record {
         after = y.goes.after;
+        timed = λ before.
+            let closed : AreTimed 0 start.state x.goes.after.entries mid.state = subst (λ (l : List Entry). AreTimed 0 start.state l mid.state) (sym x.goes.adds) (timed_append 0 start.state p.entries x.goes.more a.state mid.state before x.goes.timed) in
+            subst (λ (l : List Entry). AreTimed 0 start.state l b.state) (sym y.goes.adds) (timed_append 0 start.state x.goes.after.entries y.goes.more mid.state b.state closed y.goes.timed);
         beside = λ other ne. spares_along (course_of p other) (course_of x.goes.after other) (course_of y.goes.after other) (x.goes.beside other ne) (y.goes.beside other ne);
         asks = y.own.asks ∙ x.own.asks;
         own = λ idle. (
@@ -91,6 +97,7 @@ module _ {K D : Type 0} {start a b : CoreState K D} (p : Since start a) (n : ℕ
   dropped (inl (mid, closes, drops)) = dropped_open mid closes drops
   dropped (inr (same, away)) = subst (λ (k : CoreState K D). Dropped p n k) (sym same) (record {
     after = p;
+    timed = λ before. before;
     beside = λ other ne. record { more = []; waiting = sym (append-nil (waiting_for other a.outbox)); silent = λ _. refl; handed = refl; asks = refl; shut = refl; closes = inl (refl, refl) };
     asks = refl;
     own = λ idle. idle_away (course_of p n) idle away;
@@ -103,6 +110,7 @@ module _ {K D : Type 0} {start a b : CoreState K D} (p : Since start a) (n : ℕ
 pub closes_none : {K D : Type 0} {start a : CoreState K D} (base count : ℕ) → OpensAll start base count a → ClosesDown start base count count a
 closes_none base count o = record {
   since = o.since;
+  timed = o.timed 0;
   next = o.next;
   untaken = λ n. (o.untouched n).1;
   idle = λ n low high. inl (o.there n low high, (o.untouched n).0);
@@ -116,6 +124,7 @@ module _ {K D : Type 0} {start a b : CoreState K D} (base total left n0 : ℕ) (
       let x = dropped p.since n0 drops in
       record {
         since = x.after;
+        timed = x.timed p.timed;
         next = x.next ∙ p.next;
         untaken = λ n. elim (cases_eq n n0) [
           | inl same ↦ subst (λ (k : ℕ). requests x.after.entries k ≡ []) (sym same) (x.asks ∙ p.untaken n0)
@@ -134,6 +143,7 @@ module _ {K D : Type 0} {start a b : CoreState K D} (base total left n0 : ℕ) (
 pub closes_all : {K D : Type 0} {start a : CoreState K D} (total : ℕ) → ClosesDown start start.state.next total 0 a → ClosesAgain start a
 closes_all total p = record {
   since = p.since;
+  timed = p.timed;
   untaken = p.untaken;
   given_up = λ n low high. p.given_up n (omega (arith, low)) (omega (arith, high, p.next));
   others = p.others;

@@ -17,7 +17,7 @@ use Rattle.ov_history.specs.declared.event.Cause.{Cause}
 use Rattle.ov_history.specs.declared.event.Cause.TheVariants.{Memory}
 use Rattle.ov_history.specs.Entries.{cause_view}
 use Rattle.ov_lanes.specs.Courses.{Course, Spares}
-use Rattle.ov_lanes.specs.Fitting.{Items, brought, end_cause, is_by_reader, Took, framed, PutsFrames, Knows, most_frames, FitsCourse, IsFlushed, IsShut}
+use Rattle.ov_lanes.specs.Fitting.{Items, brought, end_cause, is_by_reader, Took, framed, AreDroppedForRoom, PutsFrames, Knows, most_frames, FitsCourse, IsFlushed, IsShut}
 use Rattle.ov_lanes.proofs.Own.{OwnHanded, OwnClosed, OwnTook}
 
 -- ---- whether a session is open, and why it was closed
@@ -119,7 +119,7 @@ puts_spared c d false put s opens same_open same_closed p = (
 puts_spared c d true put s opens same_open same_closed p = (
   same_open ∙ p.0,
   s.waiting ∙ (ap (λ (l : List (List ℕ)). c.waiting ++ l) (s.silent p.0) ∙ (append-nil c.waiting ∙ p.1)),
-  (p.2.0, p.2.1, subst (λ (l : List (List ℕ)). BeginsAs p.2.0 l) (sym s.handed) p.2.2, λ by. p.2.3 (sym (ap is_by_reader same_closed) ∙ by) ∙ sym s.handed),
+  (p.2.0, p.2.1, subst (λ (l : List (List ℕ)). BeginsAs p.2.0 l) (sym s.handed) p.2.2, λ by. p.2.3 (sym (ap is_by_reader same_closed) ∙ by) ∙ sym s.handed, subst (λ (l : List (List ℕ)). AreDroppedForRoom p.2.0 l) (sym s.handed) p.2.4),
 )
 
 puts_shut : (c d : Course) (marked : Bool) (put : List Sent) → Spares c d → c.is_open ≡ true → is_by_reader d.closed ≡ false → PutsFrames c marked put → PutsFrames d marked put
@@ -199,7 +199,7 @@ module _ (c : Course) (known : Option Cause) (items : Items) (put : List Sent) (
   fits_marked away none f = record {
     took = f.took;
     shut = f.shut;
-    puts = (away, none, (c.handed, ap (λ (l : List Sent). l ++ End ∷ []) f.puts.0, ([], append-nil c.handed), λ by. refl));
+    puts = (away, none, (c.handed, ap (λ (l : List Sent). l ++ End ∷ []) f.puts.0, ([], append-nil c.handed), λ by. refl, inl refl));
     knows = knows_marked c.closed known (f.opens ∙ ap not away) f.knows;
     ends = f.ends;
     opens = f.opens;
@@ -246,7 +246,7 @@ module _ (c d e g : Course) (known known' : Option Cause) (items : Items) (put p
   made took shut not_by closed unfailed = record {
     took = took;
     shut = shut;
-    puts = (away_is, none, (c.handed ++ moved, ap (λ (l : List Sent). l ++ End ∷ []) put_is, (last ∷ e.waiting, all_is), λ by. absurd (not_by by)));
+    puts = (away_is, none, (c.handed ++ moved, ap (λ (l : List Sent). l ++ End ∷ []) put_is, (last ∷ e.waiting, all_is), λ by. absurd (not_by by), inr more_than));
     knows = closed;
     ends = λ _. away_is;
     opens = ap is_some closed ∙ sym (ap not away_is);

@@ -65,17 +65,25 @@ IsShut (Some cause) shut messages items = (shut ≡ []) ⊎ ((shut ≡ machine.O
 
 -- ---- what a writer is sent
 
+-- the most frames that wait in a ring
+abbrev pub most_frames : ℕ
+most_frames = 1024
+
 -- frames, as a writer is sent them
 abbrev pub framed : List (List ℕ) → List Sent
 framed frames = map (λ bytes. Frame bytes) frames
 
--- What was put into a ring: the frames that were handed out. After the end mark nothing follows and nothing waits, and if
--- the reader closed the session no frame was dropped.
+-- no frame was dropped, or there were more of them than a ring has room for
+abbrev pub AreDroppedForRoom : List (List ℕ) → List (List ℕ) → Type 0
+AreDroppedForRoom frames all = (frames ≡ all) ⊎ (most_frames < length all)
+
+-- What was put into a ring: the frames that were handed out. After the end mark nothing follows and nothing waits. Frames were
+-- dropped only for want of room, and if the reader closed the session none was.
 abbrev pub PutsFrames : Course → Bool → List Sent → Type 0
 PutsFrames c false put = (put ≡ framed c.handed) × (is_by_reader c.closed ≡ true → c.waiting ≡ [])
 PutsFrames c true put =
     (c.is_open ≡ false) × (c.waiting ≡ [])
-    × ((frames : List (List ℕ)) × (put ≡ framed frames ++ End ∷ []) × BeginsAs frames c.handed × (is_by_reader c.closed ≡ true → frames ≡ c.handed))
+    × ((frames : List (List ℕ)) × (put ≡ framed frames ++ End ∷ []) × BeginsAs frames c.handed × (is_by_reader c.closed ≡ true → frames ≡ c.handed) × AreDroppedForRoom frames c.handed)
 
 -- ---- a lane
 
@@ -83,10 +91,6 @@ PutsFrames c true put =
 abbrev pub Knows : Option machine.Cause → Option Cause → Type 0
 Knows closed None = (closed ≡ None) ⊎ (closed ≡ Some machine.Memory)
 Knows closed (Some cause) = closed ≡ Some (cause_view cause)
-
--- the most frames that wait in a ring
-abbrev pub most_frames : ℕ
-most_frames = 1024
 
 -- what a lane has taken and put fits the course of its session
 pub record FitsCourse (c : Course) (cause : Option Cause) (items : Items) (put : List Sent) (marked ended : Bool) : Type 0 where

@@ -49,20 +49,22 @@ IsGivenUp c = (c.is_open ≡ false) × (c.closed ≡ Some machine.Memory)
 abbrev pub IsIdle : Course → Type 0
 IsIdle c = ((c.is_open ≡ true) × (c.closed ≡ None)) ⊎ IsGivenUp c
 
--- Since the core was `start`, `total` sessions were opened, and no message was taken from any session. All but the first `left`
--- were closed again. Earlier sessions were left alone.
+-- Since the core was `start`, `total` sessions were opened, no message was taken from any session, and no time passed. All but
+-- the first `left` were closed again. Earlier sessions were left alone.
 pub record ClosesDown {K D : Type 0} (start : CoreState K D) (base total left : ℕ) (core : CoreState K D) : Type 0 where
   pub since : Since start core
+  pub timed : AreTimed 0 start.state since.entries core.state
   pub next : core.state.next ≡ base + total
   pub untaken : (n : ℕ) → requests since.entries n ≡ []
   pub idle : (n : ℕ) → base ≤ n → n < base + left → IsIdle (course_of since n)
   pub given_up : (n : ℕ) → base + left ≤ n → n < base + total → IsGivenUp (course_of since n)
   pub others : (n : ℕ) → n < base → IsLeftAlone (is_open start.state n) (course_of since n)
 
--- More was done: no message was taken from any session, each session that was opened was closed again, as out of memory, and
--- earlier sessions were left alone.
+-- More was done, with no moment reported: no message was taken from any session, each session that was opened was closed again,
+-- as out of memory, and earlier sessions were left alone.
 pub record ClosesAgain {K D : Type 0} (old new : CoreState K D) : Type 0 where
   pub since : Since old new
+  pub timed : AreTimed 0 old.state since.entries new.state
   pub untaken : (n : ℕ) → requests since.entries n ≡ []
   pub given_up : (n : ℕ) → old.state.next ≤ n → n < new.state.next → IsGivenUp (course_of since n)
   pub others : (n : ℕ) → n < old.state.next → IsLeftAlone (is_open old.state n) (course_of since n)
