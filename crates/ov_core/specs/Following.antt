@@ -47,8 +47,8 @@ pub record Follows {K D : Type 0} (before : State) (history : List machine.Entry
   pub kept : Keeps core.kept history
   pub issued : (session : ℕ) → frames_to session sent ≡ given session ++ waiting_for session core.outbox
 
--- While these entries were entered, each attempt was counted, and there were few. The count of failures never falls, and if the
--- database became sealed, there is a cause: the device has failed.
+-- While these entries were entered, each attempt was counted, and there were at most `most_in` of them. The count of failures
+-- never falls, and if the database became sealed, there is a cause: the device has failed.
 pub record CountsWork {K D : Type 0} (old : CoreState K D) (entries : List machine.Entry) (new : CoreState K D) : Type 0 where
   pub tries : CountsAll old.state entries old.tries new.state new.tries
   pub few : new.tries ≤ old.tries + most_in old.state entries

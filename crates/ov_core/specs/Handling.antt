@@ -24,7 +24,7 @@ use Rattle.ov_core.specs.declared.live.Live.{Live}
 
 -- ---- waiting frames
 
--- These are sent, or an allocation failed and no more frames wait.
+-- These are sent, or an allocation failed and the same frames wait.
 abbrev pub PostsIfRoom : List Sent → WaitingFrames → Option Outcome → WaitingFrames → Type 0
 PostsIfRoom sent old None new = PostsSent sent old new
 PostsIfRoom sent old (Some outcome.NoMemory) new = HasSameFrames old new
@@ -113,7 +113,8 @@ pub record WorkIsDone {K : Type 0} (asked : WorkRequest) (old : Live K) (o : Opt
   pub untried : new.waiting.untried ≡ old.waiting.untried
   pub kept : machine.is_kept (listed_of o) ≡ true → new.waiting ≡ old.waiting
 
--- The work was done; or an allocation failed, no more was drawn than the work needs, and nothing else is changed.
+-- The work was done; or an allocation failed, no more was drawn than the work needs, and nothing is changed but what `Stays`
+-- allows.
 abbrev pub WorksWith : {K : Type 0} → WorkRequest → Live K → Option Outcome → Live K → Type 0
 WorksWith asked old (Some outcome.NoMemory) new = (length asked.draws ≤ draws_for asked.work) × Stays asked.session old new
 WorksWith asked old o new = WorkIsDone asked old o new

@@ -18,7 +18,7 @@ use Rattle.ov_history.specs.declared.event.Outcome.{Outcome}
 use Rattle.ov_history.specs.declared.event.Outcome.TheVariants as outcome
 use Rattle.ov_core.specs.declared.live.Live.{Live}
 
--- all waiting transactions are tried, from the first on
+-- all waiting transactions are to be tried again, from the first one
 abbrev pub tried_again : {K : Type 0} → Live K → Live K
 tried_again live = record live {
   waiting = record {

@@ -70,7 +70,7 @@ pub record IsEntered {K D : Type 0} (draws : D → Uuid → D → Type 0) (at : 
   pub uuids : draws_uuids entry ≡ true
   pub moves : EntersEntry old entry new
   pub asks : AsksKeeper entry.choice.outcomes (keeper_of old) (keeper_of new)
-  -- each attempt is counted, and there are few
+  -- each attempt is counted, and there are at most `most_attempts` of them
   pub tries : CountsTries (at_moment_of entry old.state) entry.choice entry.event old.tries new.tries
   pub few : new.tries ≤ old.tries + most_attempts entry.event (length old.state.outstanding)
 

@@ -41,8 +41,8 @@ pub(crate) struct Asked<'a> {
     pub age: u64,
 }
 
-/// Tries a transaction with the locks that its session owns now. If its changes are kept, first the updates for the
-/// audience's monitors are queued, then the reply. If an allocation fails, nothing is changed.
+/// Tries a transaction with the locks that its session owns now. If its changes are kept, first the updates for the audience's
+/// monitors are queued, then the reply. If an allocation fails, nothing is changed but `tries`, which counts every try.
 pub(crate) fn try_once<K: Keeper + Drop>(
     alloc: Global,
     db: &mut Db<K>,

@@ -168,8 +168,8 @@ impl<K: Keeper + Drop, D: Draws + Drop> Core<K, D> {
         self.tick_at(alloc, at)
     }
 
-    /// Advances time to a moment in milliseconds if a waiting transaction is due by then, and returns whether it did. Refused
-    /// as a `Tick` is; a refusal changes nothing.
+    /// Advances time as `tick` does if a waiting transaction is due by the moment, in milliseconds; returns whether it did.
+    /// Refused as `tick` is, and only if one is due; a refusal changes nothing.
     pub fn pass_where_due(&mut self, alloc: Global, moment: u64) -> Result<bool, StepFault>
         ensures passes { IfOk result (λ ticks. TicksIf D.draws ticks moment self.old self.new) }
         ensures due { IfOk result (λ ticks. ticks ≡ is_due moment self.old.state) }
@@ -234,7 +234,7 @@ impl<K: Keeper + Drop, D: Draws + Drop> Core<K, D> {
 
     /// When the first waiting transaction times out, in milliseconds: the least sum of a moment of arrival and the timeout of
     /// the wait that blocked the last try (RFC 7047, 5.2.6). `None` if none times out; a sum beyond 2^64-1 is left out. A
-    /// `Tick` at this moment answers that transaction. Allocates nothing.
+    /// `Tick` at this moment answers that transaction unless an allocation fails. Allocates nothing.
     pub fn due(&self) -> Option<u64>
         ensures { result ≡ due self.now.state }
     {
@@ -273,8 +273,8 @@ impl<K: Keeper + Drop, D: Draws + Drop> Core<K, D> {
         frame
     }
 
-    /// Hands out all frames that wait for the session, joined with nothing in between, even if it is closed: then it has no
-    /// queue any more. Empty if no frame waits for it.
+    /// Hands out all frames that wait for the session, even if it is closed: oldest first, joined with nothing in between,
+    /// empty if none waits. A closed session then has no queue. If an allocation fails, nothing is changed.
     pub fn take_output(&mut self, alloc: Global, session: Session) -> Result<Bytes, AllocError>
         ensures all { IfOk result (λ b. b ≡ joined (waiting_for session.serial self.old.outbox)) }
         ensures none_left { OnOk result (waiting_for session.serial self.new.outbox ≡ []) }
@@ -322,9 +322,9 @@ impl<K: Keeper + Drop, D: Draws + Drop> Core<K, D> {
         self.live.outbox.clear(session.serial);
     }
 
-    /// States what a crash now leaves, an invariant of every core: what is stored of the machine's database in format 2, or
-    /// after a failed commit possibly of the database that it would have made. If the keeper is honest, an open finds one of
-    /// them. Does nothing.
+    /// States what a crash now leaves in an honest keeper, an invariant of every core: the machine's database as stored in
+    /// format 2, or after a failed commit possibly the database that the commit would have made, stored likewise. An open finds
+    /// one of them. Does nothing.
     pub fn shows_left(&self)
         ensures own { K.is_honest self.now.keeper → (held : Stored) → K.leaves self.now.keeper held
             → LeavesItsOwn self.now.state held }
@@ -351,8 +351,8 @@ impl<K: Keeper + Drop, D: Draws + Drop> Core<K, D> {
         live.into_keeper()
     }
 
-    /// States what an open after a crash now would find, an invariant of every core: the machine's database, or after a
-    /// failed commit possibly the one that it would have made. Does nothing.
+    /// States what an open after a crash now would find if the keeper is honest, an invariant of every core: the machine's
+    /// database, or after a failed commit possibly the one that the commit would have made. Does nothing.
     pub fn shows_would_open(&self)
         ensures { K.is_honest self.now.keeper
             → MayFindRows (K.leaves self.now.keeper) self.now.state.schema self.now.state.database

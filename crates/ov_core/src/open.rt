@@ -41,12 +41,14 @@ impl Places {
 impl<K: Keeper + Drop, D: Draws + Drop> Core<K, D> {
     /// Opens a core on what the keeper holds, without history: no open session, last moment 0, next serial 1.
     ///
-    /// Opens the database as `Db::open` does. Only if that is refused as `SchemaDiffers`, draws one identifier, and converts
-    /// what is held to the schema in a commit of that version, as `Db::convert` does: the schema must have the stored one's
-    /// name and be newer (RFC 7047, 3.1, `<version>`; that a server converts is this server's). Either writes rows of format 1
-    /// anew, so that the keeper then holds the database in format 2. Refused as `Db::open` and `Db::convert` are. A failed
-    /// allocation is the keeper's fault `Memory`. A refusal gives keeper and schema back; what the keeper holds is then as
-    /// before, except that a device that failed as rows were written anew leaves what was held or the rows in format 2.
+    /// Opens the database as `Db::open` does. Only if that is refused as `SchemaDiffers`, draws one identifier and converts the
+    /// database to the schema as `Db::convert` does, in a commit with this identifier as its version: the schema must have the
+    /// stored one's name and be newer (RFC 7047, 3.1, `<version>`; the conversion is this server's own). The keeper then holds
+    /// the database in format 2; rows of format 1 are written anew.
+    ///
+    /// Refused as `Db::open` and `Db::convert` are; a failed allocation is the keeper's fault `Memory`. A refusal gives the
+    /// keeper and the schema back, but not `draws`. The keeper then holds what it held before; only after its fault `Device`
+    /// may it hold the database as written anew in format 2.
     #[tactic(auto, using(crate::proofs::Opening::no_memory))]
     pub fn open(
         alloc: Global,
@@ -82,8 +84,8 @@ impl<K: Keeper + Drop, D: Draws + Drop> Core<K, D> {
     }
 }
 
-/// Opens the database that a keeper holds, converted if that is refused as `SchemaDiffers`; returns it with the source, from
-/// which an identifier is then drawn.
+/// Opens the database that a keeper holds; if that is refused as `SchemaDiffers`, draws an identifier and converts the
+/// database. Returns the database and the source.
 fn open_database<K: Keeper + Drop, D: Draws + Drop>(
     alloc: Global,
     keeper: K,
@@ -105,8 +107,8 @@ fn open_database<K: Keeper + Drop, D: Draws + Drop>(
     convert_database(alloc, refused.keeper, refused.schema, draws)
 }
 
-/// Draws an identifier, and converts the database that a keeper holds, under another schema's text, in a commit of this
-/// version.
+/// Draws an identifier, and converts the database that a keeper holds under another schema's text, in a commit with this
+/// identifier as its version. Returns the database and the source.
 fn convert_database<K: Keeper + Drop, D: Draws + Drop>(
     alloc: Global,
     keeper: K,

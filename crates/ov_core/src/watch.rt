@@ -20,8 +20,8 @@ use serde_json::{Map, Value};
 use std::alloc::Global;
 
 impl<K: Keeper + Drop> Live<K> {
-    /// Adds a monitor of this name with these requests and replies with its initial contents, or refuses it (RFC 7047,
-    /// 4.1.5). If an allocation fails, the session may have the monitor, and is closed with it.
+    /// Adds a monitor of this name with these requests and replies with its initial contents, or refuses it (RFC 7047, 4.1.5).
+    /// If an allocation fails, returns `NoMemory`; the session may have the monitor, and `take` then closes the session.
     pub fn monitor(
         &mut self,
         alloc: Global,
@@ -96,8 +96,8 @@ impl<K: Keeper + Drop> Live<K> {
         }
     }
 
-    /// Cancels the monitor of this name, or refuses if there is none (RFC 7047, 4.1.7). If an allocation fails, the session
-    /// may have lost the monitor, and is closed.
+    /// Cancels the monitor of this name, or refuses if there is none (RFC 7047, 4.1.7). If an allocation fails, returns
+    /// `NoMemory`; the session may have lost the monitor, and `take` then closes the session.
     pub fn cancel_monitor(
         &mut self,
         alloc: Global,

@@ -30,13 +30,13 @@ LaneFitsWith since items l = FitsCourse (course_of since l.session.serial) l.cau
 abbrev pub LaneFits : {K D : Type 0} {first core : CoreState K D} → Since first core → Lane → Type 0
 LaneFits since l = LaneFitsWith since (received l.inbound) l
 
--- The lane was moved on, with this moment reported, and no other session was served. What it has taken before is what its
--- ring gave, or these items.
+-- The lane was moved on, with this moment reported, and no other session was served. What the lane has taken and put fits the
+-- course of its session.
 pub record Moves {K D : Type 0} {first old : CoreState K D} (at : ℕ) (since : Since first old) (l : Lane) (new : CoreState K D) (l' : Lane) : Type 0 where
   pub goes : Goes at l.session.serial since new
   pub fits : LaneFits goes.after l'
 
--- and nothing more can be moved
+-- the same with these items taken, and nothing more can be moved
 pub record Flushes {K D : Type 0} {first old : CoreState K D} (at : ℕ) (since : Since first old) (items : Items) (l : Lane) (new : CoreState K D) (l' : Lane) : Type 0 where
   pub goes : Goes at l.session.serial since new
   pub fits : LaneFitsWith goes.after items l'
@@ -233,8 +233,8 @@ abbrev pub unmarked : List (Option Lane) → ℕ
 unmarked [] = 0
 unmarked (p ∷ places) = unmarked_at p + unmarked places
 
--- Whether the session at a place was closed because its ring had no room. If so, the end mark was put; otherwise nothing was
--- entered, and nothing more can be moved for it.
+-- Whether the ring at a place had no room for a frame. If so, the end mark was put; otherwise nothing was entered, and nothing
+-- more can be moved for the session.
 abbrev pub GivesUpIf : {K D : Type 0} → Bool → CoreState K D → Option Lane → CoreState K D → Option Lane → Type 0
 GivesUpIf true old p new p' = unmarked_at p' < unmarked_at p
 GivesUpIf false old p new p' = IsQuiet old new × (unmarked_at p' ≤ unmarked_at p) × ((l : Lane) → p' ≡ Some l → IsFlushedLane new l)

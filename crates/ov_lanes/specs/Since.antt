@@ -57,7 +57,7 @@ course_before core session = record {
   waiting = waiting_for session core.outbox;
 }
 
--- More was done with this moment reported, and no session but one was meant.
+-- More was done with this moment reported, and no session but `n` was served.
 pub record Goes {K D : Type 0} {first old : CoreState K D} (at n : ℕ) (since : Since first old) (new : CoreState K D) : Type 0 where
   pub after : Since first new
   pub more : List machine.Entry

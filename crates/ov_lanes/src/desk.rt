@@ -46,7 +46,7 @@ impl<K: Keeper, D: Draws> Desk<K, D> {
 }
 
 impl<K: Keeper + Drop, D: Draws + Drop> Desk<K, D> {
-    /// Takes an item of the session at a place, as `take` does. Returns false if there is none.
+    /// Takes an item of the session at a place, as `take` does. Returns false if no item was seen or the place is free.
     fn take_at(&mut self, alloc: Global, moment: u64, at: usize) -> bool
         requires { at < vec_len self.old.lanes }
         ensures goes { DeskGoesOn moment self.old self.new }
@@ -61,11 +61,11 @@ impl<K: Keeper + Drop, D: Draws + Drop> Desk<K, D> {
         }
     }
 
-    /// Takes one item of the ring of the session of this serial: enters a message at the moment in milliseconds, or at the
-    /// last one if that is later; an end closes the session. Then moves what waits for all sessions, as `flush` does. No other
-    /// entry is made, so no other session is closed unless `flush` finds no room, or the machine closes it as out of memory
-    /// while it works on the item. Returns false if no item was seen, or if the session has no place; then nothing is changed.
-    /// Takes no lock, and waits for nobody.
+    /// Takes one item from the ring of the session of this serial: enters a message at the moment in milliseconds, or at the
+    /// last one if that is later, or drops it if the session is closed; an end closes the session. Then moves what waits for
+    /// all sessions, as `flush` does. The only other entries close served sessions whose rings have no room, as `Overrun`.
+    /// Apart from these no other session is closed, unless the machine closes it as out of memory while it works on the item.
+    /// Returns false if no item was seen or the session has no place; then nothing is changed. Takes no mutex and never waits.
     pub fn turn(&mut self, alloc: Global, moment: u64, serial: u64) -> bool
         ensures goes { DeskGoesOn moment self.old self.new }
         ensures rings { StayAs SameLane self.old.lanes.items self.new.lanes.items }
@@ -82,7 +82,7 @@ impl<K: Keeper + Drop, D: Draws + Drop> Desk<K, D> {
         true
     }
 
-    /// Moves what waits for the session at a place. Returns whether it was closed because its ring had no room.
+    /// Moves what waits for the session at a place. Returns whether its ring had no room for a frame.
     fn flush_at(&mut self, at: usize) -> bool
         requires { at < vec_len self.old.lanes }
         ensures flushes { FlushesDesk K.is_honest self.old self.new }
@@ -99,7 +99,7 @@ impl<K: Keeper + Drop, D: Draws + Drop> Desk<K, D> {
         }
     }
 
-    /// Moves what waits for each session, once. Returns whether one of them was closed because its ring had no room.
+    /// Moves what waits for each session, once. Returns whether one of their rings had no room for a frame.
     fn flush_each(&mut self) -> bool
         ensures flushes { FlushesDesk K.is_honest self.old self.new }
         ensures fewer { result ≡ true

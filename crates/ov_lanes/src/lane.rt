@@ -29,7 +29,7 @@ pub struct Lane {
 }
 
 impl Lane {
-    /// The lane of a session whose rings are new.
+    /// The lane of a session whose rings are new. The outbound ring has 1,025 places: for 1,024 frames and the end mark.
     pub fn new(
         session: Session,
         inbound: Consumer<Brought<Received, ReadCause>>,

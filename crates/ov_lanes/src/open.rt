@@ -44,7 +44,7 @@ fn close_sessions<K: Keeper + Drop, D: Draws + Drop>(
 }
 
 /// Opens this many sessions, with the next serials. None if an allocation fails or the machine refuses one; then those that
-/// were opened are closed again, as out of memory.
+/// were opened are closed again, as out of memory, and their serials stay used.
 pub fn open_sessions<K: Keeper + Drop, D: Draws + Drop>(
     core: &mut Core<K, D>,
     alloc: Global,
