@@ -39,14 +39,15 @@ pub record ServesGuests {K D S W C T : Type 0} (ends : S → W → LinkState) (t
 
 -- ---- on the way; for private clauses
 
--- The session of the lane was over, and its workers, which had this link, were joined: this is what remains of the link.
+-- The reader's end was taken from the lane's ring, and this is what remains of the link of its session. That the workers were
+-- joined is in the proofs.
 pub record HasLeft {S W : Type 0} (ends : S → W → LinkState) (l : Lane) (link : Link S W) : Type 0 where
   pub remains : End S W
   pub ended : l.ended ≡ true
   pub comes_to : EndsLane ends link l remains
 
--- Each lane stays at its place as this relation says, with its workers; or its session has left, of the link that they were
--- handed.
+-- Each lane stays at its place, with its workers, and this relation holds of it before and after; or its session has left, with
+-- the link that its workers were handed.
 abbrev pub StayOrLeave : {S W L : Type 0} → (Lane → Lane → Type 0) → (S → W → LinkState) → List (Option Lane) → List (Option (Workers S W L)) → List (Option Lane) → List (Option (Workers S W L)) → Type 0
 StayOrLeave {S} {W} {L} holds ends ls ws ms vs =
     (at : ℕ) (l : Lane) (w : Workers S W L) → IsAt ls at l → WorkAt ws at w

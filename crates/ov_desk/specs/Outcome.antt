@@ -49,8 +49,8 @@ pub record Finish : Type 0 where
 
 -- The session was closed for this cause. The messages taken from it are the first that its stream asks for, and all of them
 -- if its reader closed it. What was written are the first of the frames that were sent to it, and all of them if its reader
--- closed it or its ring has room for them; or a beginning of that if a write failed. A session that did not take what was sent
--- to it was sent more frames than its ring has room for.
+-- closed it or its ring has room for them; or a beginning of that if a write failed. A session that was closed as Overrun was
+-- sent more frames than its ring has room for.
 pub record LinkOutcome (says : Account) (finish : Finish) (old new : LinkState) : Type 0 where
   pub closed_for : says.closed ≡ Some finish.why
   pub unfailed : finish.why ≢ machine.WriteFault

@@ -76,7 +76,7 @@ TakesFor notes l m = SameLane l m × (length (received m.inbound) ≡ length (re
 abbrev pub KeepsPlaces : List ℕ → List (Option Lane) → List (Option Lane) → Type 0
 KeepsPlaces notes ls ms = StayAs (TakesFor notes) ls ms
 
--- a hall that keeps its places and gets no more links goes on as one, with these notes taken
+-- a hall that keeps its places and gets no more links stays so, with the same workers, and these notes were taken
 abbrev pub KeepsHall : {K D S W L : Type 0} → List ℕ → Hall K D S W L → Hall K D S W L → Type 0
 KeepsHall notes old new =
     old.keeps ≡ true → old.accepted ≡ None

@@ -1,4 +1,4 @@
--- The moments at which threads take messages and time passes.
+-- The moments at which the desk takes messages and time passes.
 use Rattle.std.specs.Prelude.{◌≡◌, ℕ, List, ◌++◌}
 use Rattle.ov_specs.specs.machine.Machine as machine
 use Rattle.ov_specs.specs.machine.Machine.{State}

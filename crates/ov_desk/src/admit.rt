@@ -84,8 +84,9 @@ where
     }
 }
 
-/// Serves the link as a session, at a free place. Closes both of its ends if there is none, or if a part of the ledger, a
-/// ring, a thread or the session is refused.
+/// Opens a session for the link, at a free place. If there is none, or if no bell, part of the ledger or serial is left, or
+/// if a ring, a thread or the session is refused, closes both ends of the link; the machine and the places are then as they
+/// were.
 pub(crate) fn admit<'s, E, R, K, D, L, G, S, W>(
     common: Common<'s, R, L, G>,
     scope: &Scope<'s, E>,

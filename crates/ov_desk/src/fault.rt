@@ -7,7 +7,7 @@ use ov_requests::Draws;
 pub struct RefusedLobby<K: Keeper, D: Draws, T> {
     /// Why.
     pub fault: ServeFault,
-    /// The desk, as it was.
+    /// The desk, with its machine as it was.
     pub desk: Desk<K, D>,
     /// The listener, as it was.
     pub listener: T,

@@ -32,7 +32,7 @@ pub struct Served<K: Keeper, D: Draws, S, W> {
 pub struct Unserved<K: Keeper, D: Draws, S, W> {
     /// Why.
     pub fault: ServeFault,
-    /// The desk.
+    /// The desk. Its machine is as it was, unless `Memory` came after sessions were opened.
     pub desk: Desk<K, D>,
     /// The links, as they were.
     pub links: VecDeque<Link<S, W>>,

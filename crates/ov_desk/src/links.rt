@@ -309,17 +309,18 @@ where
 /// 1,024 frames wait for its writer, or when an allocation for its request fails. A failed writer is reported at the end:
 /// its session goes on, and what is sent to it is dropped.
 ///
-/// Each reader and each writer works in a thread of its own, and the machine in this one: a request's place in the history
-/// is the moment when the desk takes it. Up to 64 messages of a session wait for the desk; then its reader waits. The clock
-/// gives the desk the moment of what it takes, in milliseconds. A transaction whose `wait` times out is answered then, even
-/// if nobody sends anything: while one may time out, the desk sleeps for a millisecond at most.
+/// Each reader and each writer works in a thread of its own, and the machine in this one: requests enter the history in the
+/// order in which the desk takes them. Up to 64 messages of a session wait for the desk; then its reader waits. The desk asks
+/// the clock for the moment of each, in milliseconds. A transaction whose `wait` times out is answered then, even if nobody
+/// sends anything: while one may time out, the desk sleeps for a millisecond at most.
 ///
-/// A session that is closed before its input ends still takes what its reader brings, and drops it: the call returns once
-/// each input has ended.
+/// The call returns once all readers and writers have ended. A reader ends with its input, at a failed read, at damage or at
+/// a failed allocation for a message; if its session is closed before that, the desk still takes what it brings, and drops
+/// it.
 ///
-/// Refused as `TooMany` if the machine has too few places or serials left, as `Memory` or as `Threads`. Then nothing is read
-/// or written, and desk and links come back: the links as they were, and the machine too, unless `Memory` came once sessions
-/// were opened. These were closed again, as out of memory.
+/// Refused as `TooMany` if the machine has too few places or serials left, as `Memory` if an allocation fails, or as
+/// `Threads` if a thread can't be started. Then nothing is read or written. The links come back as they were, and so does the
+/// machine, unless `Memory` came after sessions were opened: these were closed again, as out of memory.
 pub fn serve_links<R, K, D, G, S, W, C>(
     rt: &R,
     alloc: Global,

@@ -34,7 +34,7 @@ use std::thread::{Scope, Threads};
 /// How many sessions are served at a time.
 const PLACES: usize = 64;
 
-/// A list of this many places, in which there is nothing.
+/// A list of 64 places, in which there is nothing.
 fn empty_places<T: Drop>(alloc: Global) -> Result<Vec<Option<T>>, AllocError>
     ensures { IfOk result (λ places. AreEmpty 64 places.items) }
 {
@@ -117,7 +117,7 @@ fn shows_none_served<K: Keeper + Drop, D: Draws + Drop>(desk: &Desk<K, D>)
 }
 
 /// Starts the accepting worker, serves the connections it accepts with the desk in this thread, and joins all workers. There is
-/// a bell for each place, and for each session that may be opened a part of the ledger.
+/// a bell for each place, and the ledger has parts left for 2^64-3 sessions.
 fn serve_scoped<'s, E, R, K, D, L, G, S, W, T, C>(
     common: Common<'s, R, L, G>,
     scope: &Scope<'s, E>,
@@ -297,18 +297,19 @@ where
 /// 1,024 frames wait for its writer, or when an allocation for its request fails. What was read of it, what was written to it
 /// and why it was closed fits the history in the same way. Other sessions are not delayed. Once a session's reader has ended,
 /// and its writer has written what was sent to it, both are dropped, which closes the connection, and the place is free for
-/// another. A session that is closed before its input ends keeps its place until the input ends.
+/// another. A session that is closed before its reader ends keeps its place until the reader ends.
 ///
 /// A connection is dropped at once, with nothing read from it or written to it, if there is no place for it, the machine
 /// refuses it, an allocation fails or a thread can't be started. Up to 64 connections wait for the desk; then the listener
-/// isn't asked for another. Once it gives no more it is dropped, though sessions may still be served: the system should
+/// isn't asked for another. Once the listener gives no more, it is dropped, even while sessions are served: the system should
 /// refuse clients that connect afterwards.
 ///
-/// Each reader and each writer works in a thread of its own, the listener in one more, and the machine in this one. The
-/// clock gives the desk the moment of what it takes, in milliseconds. While a waiting transaction may time out, the desk
-/// sleeps for a millisecond at most.
+/// Each reader and each writer works in a thread of its own, the listener in one more, and the machine in this one. The desk
+/// asks the clock for the moment of each item that it takes, in milliseconds. While a waiting transaction may time out, the
+/// desk sleeps for a millisecond at most.
 ///
-/// Refused as `Memory` or as `Threads`, before anything is accepted. Then the desk and the listener come back as they were.
+/// Refused as `Memory` if an allocation fails, or as `Threads` if the accepting thread can't be started, before anything is
+/// accepted. Then the desk comes back with its machine as it was, and so does the listener.
 pub fn serve_lobby<R, K, D, G, S, W, T, C>(
     rt: &R,
     alloc: Global,

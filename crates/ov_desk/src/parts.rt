@@ -12,7 +12,7 @@ pub(crate) struct Parts<L: Ledger> {
 }
 
 impl<L: Ledger> Parts<L> {
-    /// This many parts can be taken of the share, and one stays in it.
+    /// The parts of the share, of which this many can be taken; at least one stays in it.
     pub fn of(share: Share<L>, left: u64) -> Parts<L>
         requires { left < share.parts }
         ensures { result.left ≡ left }

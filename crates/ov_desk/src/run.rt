@@ -121,8 +121,8 @@ where
     turn_once_seen(common.rt, common.alloc, &mut hall.desk, moment, note)
 }
 
-/// Serves a note at the moment that the clock reports now that the note was taken: advances time to it if a transaction is
-/// due, takes the item, and moves what waits for all sessions. Without a note no item is taken.
+/// Serves a note that was taken, or none: asks the clock for the moment, advances time to it if a waiting transaction is due
+/// by then, takes the item of the note if there is one, and moves what waits for all sessions.
 fn serve_note<'s, E, R, K, D, L, G, S, W, C>(
     common: Common<'s, R, L, G>,
     scope: &Scope<'s, E>,
@@ -150,7 +150,7 @@ where
     ensures honest { K.is_honest hall.new.desk.core.keeper → K.is_honest hall.old.desk.core.keeper }
 {
     let moment = clock.now();
-    // If an allocation fails here, the transactions get their turn with the next note.
+    // If an allocation fails here, the next call tries again, with a note or without one.
     let _ = hall.desk.core.pass_where_due(common.alloc, moment);
     let is_flushed = match note {
         Some(note) => take_noted(common, scope, bells, hall, moment, note),
@@ -175,8 +175,8 @@ fn wait_untimed<R: Wait, K: Keeper + Drop, D: Draws + Drop, L: Ledger, G>(
     common.order.wait_next(common.rt, taken)
 }
 
-/// Takes the next note. While a waiting transaction may time out, returns after a millisecond at most, without a note if none
-/// has come. A caller that `looks` looks for one for a while before it sleeps.
+/// Takes the next note. While no waiting transaction may time out, waits for one without end. Otherwise sleeps for a
+/// millisecond at most, and returns None if no note has come; if `looks`, it looks for one for a while before it sleeps.
 fn next_note<R: Wait + SystemClock, K: Keeper + Drop, D: Draws + Drop, L: Ledger, G>(
     common: Common<'_, R, L, G>,
     core: &Core<K, D>,

@@ -36,7 +36,7 @@ module _ {K D C : Type 0} where
   RefusesConnections old count told new =
       (new.clock ≡ old.clock) × ((fault : ServeFault) × (told ≡ by_serving fault) × RefusesLinks count old.core fault new.core)
 
-  -- There was no listener or no connection, and nothing was done.
+  -- There was no listener, or a connection was not accepted: the ending is that of the fault, and nothing was done.
   abbrev pub FailsToListen : Timed K D C → Ending → Timed K D C → Type 0
   FailsToListen old told new = (fault : ListenFault) × (told ≡ by_listening fault) × (new.core ≡ old.core) × (new.clock ≡ old.clock)
 
@@ -52,8 +52,8 @@ module _ {K D C : Type 0} (tells : C → ℕ → C → Type 0) where
     pub unused : AreNewClients links
     pub served : ServesLinks old links new remains
 
-  -- This many connections were served to their ends, which is the end of the input, and this remains of them; or they were not
-  -- served, or there were fewer, and nothing remains.
+  -- This many connections were served to their ends, the ending is InputEnded, and this remains of them; or they were not
+  -- served, or not all were accepted, and nothing remains.
   abbrev pub EndsSoMany : Timed K D C → ℕ → Ending → Timed K D C → List ClientEnd → Type 0
   EndsSoMany old count told new remains =
       ((told ≡ ending.InputEnded) × ServesConnections old count new remains)

@@ -19,10 +19,14 @@ use std::net::{Net, TcpListener, TcpStream};
 /// time, from the first byte of its input to its end. If the port is 0, the system chooses one, and a line on standard error
 /// reports it.
 ///
-/// If a number N is given, N connections are accepted: no session is served before all connections are there, and none is
-/// closed before all sessions have ended. What remains of each comes back. The session of a client that went away earlier
-/// ends at once. If there are fewer, nothing is read or written. Without a number every client is served at once, up to 64 at
-/// a time, until a connection can't be accepted.
+/// If a number N is given, N connections are accepted, and then served; none is closed before all sessions have ended, and
+/// what remains of each comes back. The session of a client that has left by then ends at once. If a connection can't be
+/// accepted, or `serve_links` refuses them, nothing is read or written, and all are closed: so N is at most the number of
+/// places that the machine has left, 64 if no session is open. Without a number every client is served at once, up to 64 at a
+/// time, until a connection can't be accepted.
+///
+/// The ending is `InputEnded` if N sessions were served, `Memory` if none was served because an allocation failed, and
+/// otherwise `Streams`.
 pub fn serve_at<R, K, D, C>(
     rt: &R,
     alloc: Global,

@@ -6,7 +6,7 @@ use std::rt::Clock as SystemClock;
 use std::time::Instant;
 
 /// A clock of milliseconds since it was made, by the system's monotonic clock. If that can't be read, it stays at the last
-/// moment.
+/// moment; if it could not be read when the clock was made, it stays at 0.
 #[derive(Drop)]
 pub struct MonotonicClock<'a, R: SystemClock> {
     system: &'a R,

@@ -23,7 +23,8 @@ use std::sync::Wait;
 use std::thread::Threads;
 
 /// Serves each connection as a session of the machine, all at the same time, as `serve_links` does, and returns what remains
-/// of each. If they are not served, nothing is read or written, and the connections are closed.
+/// of each. If they are not served, nothing is read or written, the connections are closed, and the machine is as
+/// `serve_links` leaves it. The ending is then `Memory` if an allocation failed, and otherwise `Streams`.
 ///
 /// No connection is closed before all sessions have ended; then the owner of what remains closes them.
 pub fn serve_connections<R, K, D, C>(
@@ -79,8 +80,8 @@ fn connected(
     accept_all(alloc, &listener, count)
 }
 
-/// Serves this many connections as sessions of the machine, once all of them are there. After all sessions have ended their
-/// input has ended, whatever each of them was closed for.
+/// Serves this many connections as sessions of the machine, once all of them are there. If they are served, the ending is
+/// `InputEnded`, whatever each session was closed for.
 pub(crate) fn serve_so_many<R, K, D, C>(
     rt: &R,
     alloc: Global,

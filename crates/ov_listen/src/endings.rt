@@ -27,8 +27,7 @@ pub fn ending_of_serving(fault: ServeFault) -> Ending
     }
 }
 
-/// Whether a database's file is closed after its sessions ended so: by their input or by their streams, and not by a failed
-/// allocation.
+/// Whether a database's file is closed after its sessions ended so: after `InputEnded` and `Streams` alone.
 pub fn closes_file(ending: Ending) -> bool
     ensures { result ≡ closes_file ending }
 {

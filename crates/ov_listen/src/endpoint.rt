@@ -52,9 +52,9 @@ pub struct Ended<K: Keeper, D: Draws> {
     pub ends: VecDeque<End<ClientReader, ClientWriter>>,
 }
 
-/// Opens the machine over what a keeper holds under the schema, and serves sessions of it: one over the pipes, or those at an
-/// address, as `serve_at` does, by the clock of the pipes. If the machine is not opened, nothing is read or written, and the
-/// server does not listen.
+/// Opens the machine with the schema over what the keeper holds, as `Core::open` does, and serves its sessions: one over the
+/// pipes, as `serve_pipes` does, or those at an address, as `serve_at` does, by the clock of the pipes. If `Core::open`
+/// refuses, returns its refusal; then nothing is read from the pipes or written to them, and the server does not listen.
 pub fn serve_offer<R, K, D, S, W, C>(
     rt: &R,
     alloc: Global,

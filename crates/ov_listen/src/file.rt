@@ -118,10 +118,10 @@ fn close_kept<T: Start>(
 }
 
 /// Serves sessions of the database in the file at a path, as `serve_offer` does. `start` stands for what the file and its log
-/// held. The connections are closed once all sessions have ended. If the sessions ended by their input or by their streams,
-/// or no client was served for a cause other than memory, the file is then closed: it holds the whole database, with no log
-/// beside it, unless the system refuses that. If the closing fails, nothing is lost: the file and its log belong together, as
-/// after a kill. If the file is refused, nothing is read or written, the server does not listen, and nothing is copied into
+/// held. The connections are closed once all sessions have ended. After the ending `InputEnded` or `Streams`, even of a
+/// server that could not listen, the file is then closed: it holds the whole database, with no log beside it, unless the
+/// system refuses that. If the closing fails, nothing is lost: the file and its log belong together, as after a kill. If the
+/// file is refused, nothing is read from the pipes or written to them, the server does not listen, and nothing is copied into
 /// the file.
 ///
 /// No contract ties a path to a file, so none says that the file which is opened and closed is the one at the path.

@@ -13,7 +13,8 @@ use std::alloc::Global;
 use std::sync::Wait;
 
 /// Serves one session of the machine over pipes, from the first byte of the input to its end, and returns how the program
-/// ends: by the cause for which the session was closed. If it can't be opened, nothing is read or written.
+/// ends: by the cause for which the session was closed. If it can't be opened, the ending is `Memory` if an allocation
+/// failed and otherwise `Streams`, and nothing is read or written.
 pub fn serve_pipes<R: Wait, K: Keeper + Drop, D: Draws + Drop, S: Source, W: Sink, C: Clock>(
     rt: &R,
     alloc: Global,

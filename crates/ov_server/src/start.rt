@@ -43,7 +43,8 @@ fn ending_without_words(kind: ErrorKind) -> Ending
     }
 }
 
-/// The program's arguments, the first of which is its name. No contract says what they are: the kit names none.
+/// The program's arguments, the first of which is its name. No contract says what they are: the kit names none. Returns
+/// `Memory` if an allocation fails, and `Arguments` if the system gives none, for example because one is not UTF-8.
 pub fn words_of<R: Env + AllocGlobal>(rt: &R) -> Result<Vec<String>, Ending>
     ensures { IfErr result (λ ending. (ending ≡ Ending.Memory) ⊎ (ending ≡ Ending.Arguments)) }
 {
@@ -116,9 +117,10 @@ fn service_of<R: RandomSource, F: Files>(
     })
 }
 
-/// Runs the program on its arguments, the first of which is its name, and returns how its database ended; or how the program
-/// ends if none is served. Faults are looked for in the arguments, then in the schema, then in the database, and then in the
-/// address. `start` stands for what the database's file and its log hold.
+/// Runs the program on its arguments, the first of which is its name, and returns how the sessions of its database ended, or
+/// that it was not opened. If the arguments, the schema, or memory or random bytes for the start are refused, returns how the
+/// program ends, and the pipes are not used. Faults are looked for in the arguments, then in the schema, then in the database,
+/// and then at the address. `start` stands for what the database's file and its log hold.
 pub fn run<R, A, T, S, W, C>(
     host: &HostRuntime,
     rt: &R,

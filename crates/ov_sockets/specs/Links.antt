@@ -21,8 +21,8 @@ ClientLink = Link (Watched TcpStream) (Watched (BufWriter TcpStream Global))
 abbrev pub IsUnused : {T : Type 0} → Watched T → Type 0
 IsUnused end = (end.trace.bytes ≡ []) × (end.ended ≡ false) × (end.flushed ≡ false) × (end.failures ≡ 0)
 
--- The reader is of this connection, and nothing went over the two. The writer is another handle of the connection: the kit
--- doesn't say of which. It buffers up to 8,192 bytes.
+-- The reader is of this connection, and nothing went over the two ends. The writer is a second handle: that it is of the same
+-- connection, the kit doesn't say. It buffers up to 8,192 bytes.
 abbrev pub IsNewClient : ClientLink → TcpStream → Type 0
 IsNewClient link stream =
     IsUnused link.reader × (link.reader.inner ≡ stream)
@@ -42,7 +42,8 @@ ComesTo (Err error) (next.Client link) = ⊥
 ComesTo (Err error) next.Failed = is_given_up (error_kind error) ≡ true
 ComesTo (Err error) next.Over = is_given_up (error_kind error) ≡ false
 
--- The two are of a connection of the listener's, over which nothing went. The listener stays as it is.
+-- A link that is given is new, and its reader is of some connection: no contract says that it is one of the listener's. The
+-- listener stays as it is.
 abbrev pub GivesClient : Clients → Option ClientLink → Clients → Type 0
 GivesClient old None new = new ≡ old
 GivesClient old (Some link) new = (new ≡ old) × ((stream : TcpStream) × IsNewClient link stream)

@@ -10,11 +10,11 @@ use std::collections::VecDeque;
 use std::net::TcpListener;
 
 /// Accepts this many connections, one after another, waits for each, and returns the two ends of each, which own it. Nothing
-/// has been read from them or written to them. What is written is sent at once and not gathered (TCP_NODELAY), unless the
+/// has been read from them or written to them. What is flushed is sent at once and not gathered (TCP_NODELAY), unless the
 /// system refuses that.
 ///
-/// Returns `Refused` if one is not accepted or the system has no room for its second end, and `Memory` if an allocation
-/// fails; then those before it are closed. Without a client it waits forever.
+/// Returns `Refused` if one is not accepted, even if only its client gave it up, or the system has no room for its second
+/// end, and `Memory` if an allocation fails; then all that were accepted are closed. Without a client it waits forever.
 pub fn accept_all(
     alloc: Global,
     listener: &TcpListener,

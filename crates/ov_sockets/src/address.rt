@@ -22,7 +22,7 @@ pub fn listen<R: Net<Listener = TcpListener, Stream = TcpStream>>(
 
 /// The line that reports where a listener listens, without its line end, if the address that was named ends in `:0`: then
 /// the system chose the port. For any other address there is none. Returns `Refused` if the system doesn't report the
-/// address.
+/// address, and `Memory` if an allocation fails.
 pub fn chosen_line(
     alloc: Global,
     named: &str,

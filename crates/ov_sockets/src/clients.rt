@@ -35,7 +35,8 @@ impl Listen<ClientReader, ClientWriter> for Clients {
     ghost gives = { GivesClient };
 
     /// Skips a connection that its client gave up before it was accepted, and closes one at once if the system has no room
-    /// for its ends. What is written is sent at once and not gathered (TCP_NODELAY), unless the system refuses that.
+    /// for its ends or an allocation fails. Tries again after an interruption; after any other error there are no more. What
+    /// is flushed is sent at once and not gathered (TCP_NODELAY), unless the system refuses that.
     fn accept(&mut self) -> Option<Link<ClientReader, ClientWriter>> {
         for answer in self.listener.incoming() {
             match next_of(self.alloc, answer) {
@@ -84,7 +85,7 @@ fn is_given_up(kind: ErrorKind) -> bool
     )
 }
 
-/// The two ends of a client's connection, which own it. What is written is sent at once and not gathered (TCP_NODELAY),
+/// The two ends of a client's connection, which own it. What is flushed is sent at once and not gathered (TCP_NODELAY),
 /// unless the system refuses that.
 ///
 /// Returns `Memory` if an allocation fails, and `Refused` if the system has no room for the second end.

@@ -6,11 +6,11 @@ use thiserror::Error;
 /// Why there are no connections.
 #[derive(Clone, Copy, Debug, PartialEq, Eq, Error)]
 pub enum ListenFault {
-    /// The text is not an address, or the address is not one of this machine's or is in use; or a connection was not
-    /// accepted, or the system has no descriptor for its second end.
+    /// The text is not an address, or the address is not one of this machine's or is in use; or the system doesn't report
+    /// which port it chose; or a connection was not accepted, or the system has no descriptor for its second end.
     #[error("no connection")]
     Refused,
-    /// An allocation failed.
+    /// An allocation failed, or the system is out of memory.
     #[error("out of memory")]
     Memory,
 }

@@ -13,8 +13,8 @@ use ov_requests::Draws;
 use ov_rpc::Received;
 use std::alloc::Global;
 
-/// Enters the messages that a piece of the open session's stream ends, at the moment or at the last one if that is later,
-/// and then closes the session as Damaged if the stream is damaged. Closes it as Memory if an allocation fails.
+/// Enters the messages that end in this piece of the open session's stream, at the moment in milliseconds, or at the last one
+/// if that is later. Then closes the session as Damaged if the stream is damaged. Closes it as Memory if an allocation fails.
 ///
 /// The cutter has to be the one that was given the session's stream, which was not damaged before. With any other, messages
 /// that the cutter finds may be entered, and the session may be closed, but nothing of another session is entered.

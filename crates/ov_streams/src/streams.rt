@@ -77,7 +77,8 @@ impl<K: Keeper + Drop, D: Draws + Drop> Streams<K, D> {
         &self.core
     }
 
-    /// Serves the events in order, up to an opening or a passing of time that is refused.
+    /// Serves the events in order, up to one that is refused; those after it are dropped. Only an opening, as `TooMany` or as
+    /// `Memory`, and a passing of time, as `Memory`, may be refused.
     pub fn run(&mut self, alloc: Global, events: Vec<StreamEvent>) -> Ran
         ensures served { result.served ≤ length events.items }
         // Whatever list suited before, it now suits with the served events appended.
@@ -106,7 +107,8 @@ impl<K: Keeper + Drop, D: Draws + Drop> Streams<K, D> {
         }
     }
 
-    /// Hands out and joins the frames that wait for session n; none if an allocation fails.
+    /// Hands out all frames that wait for the session of this serial, joined with nothing in between; empty if none waits. If
+    /// an allocation fails, they all still wait.
     pub fn output(&mut self, alloc: Global, session: u64) -> Result<Bytes, AllocError>
         ensures all { IfOk result (λ b. b ≡ joined (waiting_for session self.old.core.outbox)) }
         ensures handed { IfOk result
