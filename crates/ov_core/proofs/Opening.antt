@@ -119,6 +119,7 @@ no_memory k draws keeper schema source = record {
   drawn = refl;
   another = λ now some. absurd (some refl);
   kinds = tt;
+  read_kinds = λ none now two. tt;
   plain = λ none same. cc;
   fault = λ now held here. tt;
   cause = λ same. cc;
@@ -184,6 +185,7 @@ module _ {K D : Type 0} (k : Ghosts K) (draws : D → Uuid → D → Type 0) (sc
     drawn = r.drawn;
     another = λ now some. looks.another (r.honest now);
     kinds = r.kinds;
+    read_kinds = λ none now two. r.read_kinds none now (looks.format ∙ two);
     plain = r.plain;
     fault = λ now. held_before (λ held. TellsRefusal (opens_as schema r.version held) refused.fault) (λ held. tells_prop (opens_as schema r.version held) refused.fault) (r.honest now) (r.fault now);
     cause = λ device. failed_since (k.failed old) (k.failed mid) (k.failed refused.keeper) looks.counts r.counts (r.cause device);

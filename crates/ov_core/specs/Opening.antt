@@ -12,7 +12,7 @@ use Rattle.ov_keeper.specs.Keeping.{HasFailed}
 use Rattle.ov_stored.specs.declared.fault.OpenFault.TheVariants.{SchemaDiffers, Keeping}
 use Rattle.ov_db.specs.declared.fault.RefusedOpen.{RefusedOpen}
 use Rattle.ov_db.specs.KeptDatabase.{KeptDatabase}
-use Rattle.ov_db.specs.Opening.{IsFaultAs, LeavesOpened, LeavesUnopened, TellsRefusal, opens_as}
+use Rattle.ov_db.specs.Opening.{IsFaultAs, IsReadFault, LeavesOpened, LeavesUnopened, TellsRefusal, opens_as}
 use Rattle.ov_requests.specs.Drawing.{DrawsFrom}
 use Rattle.ov_core.specs.Following.{CoreState, Follows, none_given}
 
@@ -56,6 +56,8 @@ module _ {K D : Type 0} (k : Ghosts K) (draws : D → Uuid → D → Type 0) (ke
     pub drawn : DrawsFrom draws source (option_to_list version) after
     pub another : k.is_honest refused.keeper → version ≢ None → FindsAnother (k.leaves keeper) schema
     pub kinds : IsFaultAs version refused.fault
+    -- without a conversion nothing is written over a keeper of format 2, so no write fails
+    pub read_kinds : version ≡ None → k.is_honest refused.keeper → k.format keeper ≡ 2 → IsReadFault refused.fault
     pub plain : version ≡ None → refused.fault ≢ SchemaDiffers
     pub fault : k.is_honest refused.keeper → (held : Stored) → k.leaves keeper held
         → TellsRefusal (opens_as schema version held) refused.fault

@@ -19,6 +19,7 @@ returns-in-Err-clause-refused g c = let it = c.in-Err.ensures in record {
   drawn = (c.draw-version.new.self, c.draw-version.ensures, refl);
   another = λ now some. c.requires.another (it.honest_refused now);
   kinds = it.kinds;
+  read_kinds = λ none now two. cc;
   plain = λ none same. cc;
   fault = it.fault;
   cause = it.cause;

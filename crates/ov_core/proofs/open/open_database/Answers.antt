@@ -27,6 +27,7 @@ returns-then-ne-clause-refused g c =
       drawn = refl;
       another = λ now some. absurd (some refl);
       kinds = it.kinds;
+      read_kinds = λ none. it.read_kinds;
       plain = λ none. other;
       fault = it.fault;
       cause = it.cause;
