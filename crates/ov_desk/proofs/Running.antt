@@ -197,17 +197,21 @@ module _ {K D S W L : Type 0} where
         q.0,
         q.1,
         q.2 ∙ p.2,
-        λ apart. let first = p.3 apart in kept_along xs ys ls ms c.desk.lanes.items first (q.3 (apart_stays ls ms (kept_same xs ls ms first) apart)),
+        q.3 ∙ p.3,
+        λ apart. let first = p.4 apart in kept_along xs ys ls ms c.desk.lanes.items first (q.4 (apart_stays ls ms (kept_same xs ls ms first) apart)),
       )
 
   pub hall_same : (a : Hall K D S W L) → KeepsHall [] a a
-  hall_same a k none = (k, none, refl, λ apart. kept_tended a.desk.lanes.items a.desk.lanes.items (tended_all a.desk.lanes.items))
+  hall_same a k none = (k, none, refl, refl, λ apart. kept_tended a.desk.lanes.items a.desk.lanes.items (tended_all a.desk.lanes.items))
 
-  pub hall_puts : (a : Hall K D S W L) (d : Desk K D) → StayAs PutsAlone a.desk.lanes.items d.lanes.items → KeepsHall [] a (record a { desk = d })
-  hall_puts a d s k none = (k, none, refl, λ apart. kept_puts a.desk.lanes.items d.lanes.items s)
+  pub hall_passed : (a : Hall K D S W L) (core : CoreState K D) → core.state.next ≡ a.desk.core.state.next → KeepsHall [] a (record a { desk = record a.desk { core = core } })
+  hall_passed a core next k none = (k, none, refl, next, λ apart. kept_tended a.desk.lanes.items a.desk.lanes.items (tended_all a.desk.lanes.items))
 
-  pub hall_tended : (a b : Hall K D S W L) → (b.keeps ≡ a.keeps) × (b.accepted ≡ a.accepted) → IsKept a b → KeepsHall [] a b
-  hall_tended a b same kept k none = let x = kept k in (same.0 ∙ k, same.1 ∙ none, x.1, λ apart. kept_tended a.desk.lanes.items b.desk.lanes.items x.0)
+  pub hall_puts : (a : Hall K D S W L) (d : Desk K D) → StayAs PutsAlone a.desk.lanes.items d.lanes.items → d.core.state.next ≡ a.desk.core.state.next → KeepsHall [] a (record a { desk = d })
+  hall_puts a d s next k none = (k, none, refl, next, λ apart. kept_puts a.desk.lanes.items d.lanes.items s)
+
+  pub hall_tended : (a b : Hall K D S W L) → (b.keeps ≡ a.keeps) × (b.accepted ≡ a.accepted) → b.desk.core ≡ a.desk.core → IsKept a b → KeepsHall [] a b
+  hall_tended a b same core kept k none = let x = kept k in (same.0 ∙ k, same.1 ∙ none, x.1, ap (λ (c : CoreState K D). c.state.next) core, λ apart. kept_tended a.desk.lanes.items b.desk.lanes.items x.0)
 
 pub briefly : (old new : List ℕ) (note : Option ℕ) → MatchOption note (new ≡ old) (λ n. new ≡ old ++ n ∷ []) → new ≡ old ++ option_to_list note
 briefly old new None is = is ∙ sym (append-nil old)

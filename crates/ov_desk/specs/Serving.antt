@@ -23,10 +23,11 @@ use Rattle.ov_desk.specs.Time.{TakesTime}
 
 -- ---- links
 
--- The links were served by this clock, and this is what the core made of it. Every session that is open was open before, and
--- sessions from before are not served.
+-- The links were served by this clock, and this is what the core made of it. As many sessions were opened as there are links.
+-- Every session that is open was open before, and sessions from before are not served.
 pub record ServesAll {K D S W C : Type 0} (ends : S → W → LinkState) (tells : C → ℕ → C → Type 0) (old new : Timed K D C) (links : List (Link S W)) (remains : List (End S W)) : Type 0 where
   pub since : Since old.core new.core
+  pub next : new.core.state.next ≡ old.core.state.next + length links
   pub all : AllEnd ends since old.core.state.next links remains
   pub closed : (n : ℕ) → is_open old.core.state n ≡ false → is_open new.core.state n ≡ false
   pub earlier : (n : ℕ) → n < old.core.state.next → Spares (course_before old.core n) (course_of since n)
@@ -76,11 +77,13 @@ TakesFor notes l m = SameLane l m × (length (received m.inbound) ≡ length (re
 abbrev pub KeepsPlaces : List ℕ → List (Option Lane) → List (Option Lane) → Type 0
 KeepsPlaces notes ls ms = StayAs (TakesFor notes) ls ms
 
--- a hall that keeps its places and gets no more links stays so, with the same workers, and these notes were taken
+-- a hall that keeps its places and gets no more links stays so, with the same workers; no session was opened, and these notes
+-- were taken
 abbrev pub KeepsHall : {K D S W L : Type 0} → List ℕ → Hall K D S W L → Hall K D S W L → Type 0
 KeepsHall notes old new =
     old.keeps ≡ true → old.accepted ≡ None
     → (new.keeps ≡ true) × (new.accepted ≡ None) × (new.workers ≡ old.workers)
+    × (new.desk.core.state.next ≡ old.desk.core.state.next)
     × (AreApart old.desk.lanes.items → KeepsPlaces notes old.desk.lanes.items new.desk.lanes.items)
 
 -- whether an item of the session was taken; if not, it has no place, and nothing is changed

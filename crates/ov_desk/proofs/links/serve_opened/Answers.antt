@@ -27,7 +27,7 @@ finish_all-ends-requires-clause-seats g c =
     let many : length ls ≡ deque_len c.args.links = threes_counts IsSeatOf c.args.links.items ls c.seat_all.new.workers.items t.1 ∙ long in
     let s = serves_opened ls (subst (λ (n : ℕ). OpensAll c.requires.0 c.requires.0.state.next n c.args.core) (sym many) o.opens) t.0 in
     let kept = c.run.ensures.kept.2 refl refl in
-    (c.args.links.items, subst (λ v. Threewise IsSeatOf c.args.links.items ms v) (ap (λ v. v.items) (sym kept.2)) (seats_later c.args.links.items ls ms c.seat_all.new.workers.items (kept_same c.run.ensures.kept.0 ls ms (kept.3 s.serves.apart)) t.1))
+    (c.args.links.items, subst (λ v. Threewise IsSeatOf c.args.links.items ms v) (ap (λ v. v.items) (sym kept.2)) (seats_later c.args.links.items ls ms c.seat_all.new.workers.items (kept_same c.run.ensures.kept.0 ls ms (kept.4 s.serves.apart)) t.1))
 
 pub finish_all-ends-requires-clause-room : goal.finish_all-ends-requires-clause-room
 finish_all-ends-requires-clause-room g c =
@@ -38,7 +38,7 @@ finish_all-ends-requires-clause-room g c =
     let many : length ls ≡ deque_len c.args.links = threes_counts IsSeatOf c.args.links.items ls c.seat_all.new.workers.items t.1 ∙ long in
     let s = serves_opened ls (subst (λ (n : ℕ). OpensAll c.requires.0 c.requires.0.state.next n c.args.core) (sym many) o.opens) t.0 in
     let kept = c.run.ensures.kept.2 refl refl in
-    let stay : StayAs SameLane ls ms = kept_same c.run.ensures.kept.0 ls ms (kept.3 s.serves.apart) in
+    let stay : StayAs SameLane ls ms = kept_same c.run.ensures.kept.0 ls ms (kept.4 s.serves.apart) in
     let places : length ms ≡ vec_len c.run.new.hall.desk.lanes = search rules in
     (o.ends.0, subst (λ (n : ℕ). n ≤ deque_capacity c.args.opened.ends) (sym (sym places ∙ (stay.many ∙ many))) o.ends.1)
 
@@ -51,12 +51,13 @@ returns-clause-served g c old o =
     let opens = subst (λ (n : ℕ). OpensAll old old.state.next n c.args.core) (sym many) o.opens in
     let s = serves_opened ls opens t.0 in
     let kept = c.run.ensures.kept.2 refl refl in
-    let stay : StayAs SameLane ls ms = kept_same c.run.ensures.kept.0 ls ms (kept.3 s.serves.apart) in
+    let stay : StayAs SameLane ls ms = kept_same c.run.ensures.kept.0 ls ms (kept.4 s.serves.apart) in
     let seats = subst (λ v. Threewise IsSeatOf c.args.links.items ms v) (ap (λ v. v.items) (sym kept.2)) (seats_later c.args.links.items ls ms c.seat_all.new.workers.items stay t.1) in
     let by = c.run.ensures.hosts in let x = (by.hosts old s.serves).0 in let after = x.after in
     let ends = c.finish_all-ends.ensures c.args.links.items seats in
     rw c.new-desk.ensures.core (record {
       since = after.since;
+      next = omega (arith, kept.3, o.opens.next, long);
       all = all_end (ends_of g.S.Source g.W.Sink) after.since old.state.next (omega arith) c.args.links.items ms c.finish_all-ends.result.items after.fits (count_stays old.state.next ls ms stay (count_new old.state.next ls t.0)) ends;
       closed = shut_over old c.run.new.hall.desk after c.run.ensures.over;
       earlier = after.earlier;

@@ -13,7 +13,7 @@ use Rattle.ov_desk.specs.Serving.{KeepsHall}
 use Rattle.ov_desk.proofs.Guests.{leaves_none, flushed_there, session_tended, session_puts, hosts_steady, hosts_none, hosts_along}
 use Rattle.ov_desk.proofs.Noting.{notes_none, notes_left, notes_puts, notes_then, noted_of}
 use Rattle.ov_desk.proofs.Seats.{seats_stay}
-use Rattle.ov_desk.proofs.Running.{hall_along, hall_same, hall_puts, hall_tended, puts_same_all}
+use Rattle.ov_desk.proofs.Running.{hall_along, hall_passed, hall_same, hall_puts, hall_tended, puts_same_all}
 use Rattle.ov_desk.proofs.run.serve_note.Goals.{in-Some, in-None, then-not-is_flushed, else-not-is_flushed}
 use Rattle.ov_desk.proofs.run.serve_note.Goals as goal
 
@@ -86,19 +86,22 @@ returns-clause-flushed g c =
 
 pub returns-clause-kept : goal.returns-clause-kept
 returns-clause-kept g c =
-    let o = c.args.hall.now in let a = c.match-note.hall in let b = c.if-not-is_flushed.hall in let d = c.tend.new.self in
+    let o = c.args.hall.now in let core = c.pass_where_due.new.self in let p = record o { desk = record o.desk { core = core } } in
+    let a = c.match-note.hall in let b = c.if-not-is_flushed.hall in let d = c.tend.new.self in
     let note = option_to_list c.args.note in
-    let taken : KeepsHall note o a = elim c.match-note.branch [
+    let passed : KeepsHall [] o p =
+    hall_passed o core (passes_next o.desk.core core g.D.Draws.draws c.now-moment.result c.pass_where_due.result c.pass_where_due.ensures.passes c.pass_where_due.ensures.refused) in
+    let taken : KeepsHall note p a = elim c.match-note.branch [
       | in-Some w ↦
-          subst (λ h. KeepsHall note o h) (sym w.hall-is) (subst (λ n. KeepsHall n o w.take_noted-is_flushed.new.hall) (ap option_to_list (sym w.in-Some.is)) w.take_noted-is_flushed.ensures.kept)
-      | in-None w ↦ subst (λ h. KeepsHall note o h) (sym w.hall-is) (subst (λ n. KeepsHall n o o) (ap option_to_list (sym w.in-None.is)) (hall_same o))
+          subst (λ h. KeepsHall note p h) (sym w.hall-is) (subst (λ n. KeepsHall n p w.take_noted-is_flushed.new.hall) (ap option_to_list (sym w.in-Some.is)) w.take_noted-is_flushed.ensures.kept)
+      | in-None w ↦ subst (λ h. KeepsHall note p h) (sym w.hall-is) (subst (λ n. KeepsHall n p p) (ap option_to_list (sym w.in-None.is)) (hall_same p))
     ] in
     let flushed : KeepsHall [] a b = elim c.if-not-is_flushed.branch [
-      | then-not-is_flushed w ↦ subst (λ h. KeepsHall [] a h) (sym w.hall-is) (hall_puts a w.flush.new.self w.flush.ensures.flushes.rings)
+      | then-not-is_flushed w ↦ subst (λ h. KeepsHall [] a h) (sym w.hall-is) (hall_puts a w.flush.new.self w.flush.ensures.flushes.rings w.flush.ensures.flushes.steady.next)
       | else-not-is_flushed w ↦ subst (λ h. KeepsHall [] a h) (sym w.hall-is) (hall_same a)
     ] in
-    let tended = hall_tended b d c.tend.ensures.tends.same c.tend.ensures.kept in
-    subst (λ n. KeepsHall n o d) (append-nil note) (hall_along note [] o a d taken (hall_along [] [] a b d flushed tended))
+    let tended = hall_tended b d c.tend.ensures.tends.same c.tend.ensures.tends.core c.tend.ensures.kept in
+    subst (λ n. KeepsHall n o d) (append-nil note) (hall_along note [] o a d (hall_along [] note o p a passed taken) (hall_along [] [] a b d flushed tended))
 
 pub returns-clause-seats : goal.returns-clause-seats
 returns-clause-seats g c = c.tend.ensures.tends.seats

@@ -19,6 +19,7 @@ returns-clause-kept g c keeps none = (
   keeps,
   none,
   refl,
+  c.turn_once_seen.ensures.steady.next,
   λ apart. kept_noted c.args.note c.args.hall.now.desk.lanes.items c.turn_once_seen.new.desk.lanes.items c.turn_once_seen.ensures.rings c.turn_once_seen.result c.turn_once_seen.ensures.taken apart,
 )
 
