@@ -42,7 +42,8 @@ pub(crate) struct Asked<'a> {
 }
 
 /// Tries a transaction with the locks that its session owns now. If its changes are kept, first the updates for the audience's
-/// monitors are queued, then the reply. If an allocation fails, nothing is changed but `tries`, which counts every try.
+/// monitors are queued, then the reply. If an allocation outside the store fails, nothing is changed but `tries`, which counts
+/// every try.
 pub(crate) fn try_once<K: Keeper + Drop>(
     alloc: Global,
     db: &mut Db<K>,

@@ -68,8 +68,8 @@ fn cancellation(alloc: Global, id: Tree) -> Result<Bytes, AllocError>
 
 impl<K: Keeper + Drop> Live<K> {
     /// Takes a message of an open session and does its work. Then settles the waiting transactions if the work changed the
-    /// database, or closes the session if an allocation for the work failed. Adds what is listed of the attempts to `attempts`.
-    /// Returns the identifiers that were drawn.
+    /// database, or closes the session if an allocation outside the store failed. Adds what is listed of the attempts to
+    /// `attempts`. Returns the identifiers that were drawn.
     pub fn take<D: Draws>(
         &mut self,
         alloc: Global,
@@ -106,8 +106,8 @@ impl<K: Keeper + Drop> Live<K> {
         draws
     }
 
-    /// Does the work on a message of an open session, which is attempt 1 of its event. If an allocation fails, at most the
-    /// session's monitors and the count of attempts are changed; identifiers may have been drawn.
+    /// Does the work on a message of an open session, which is attempt 1 of its event. If an allocation outside the store
+    /// fails, at most the session's monitors and the count of attempts are changed; identifiers may have been drawn.
     fn handle<D: Draws>(
         &mut self,
         alloc: Global,

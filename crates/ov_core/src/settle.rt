@@ -98,8 +98,8 @@ impl<K: Keeper + Drop> Live<K> {
         }
     }
 
-    /// Closes the session if an allocation failed in its finished try. Begins the next pass, from the first waiting
-    /// transaction, if the try changed the database.
+    /// Closes the session if an allocation outside the store failed in its finished try. Begins the next pass, from the first
+    /// waiting transaction, if the try changed the database.
     fn after_try(&mut self, session: u64, outcome: Option<Outcome>)
         ensures after { AfterTry session outcome self.old self.new }
         ensures database { self.new.database ≡ self.old.database }

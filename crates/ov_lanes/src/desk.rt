@@ -65,7 +65,8 @@ impl<K: Keeper + Drop, D: Draws + Drop> Desk<K, D> {
     /// last one if that is later, or drops it if the session is closed; an end closes the session. Then moves what waits for
     /// all sessions, as `flush` does. The only other entries close served sessions whose rings have no room, as `Overrun`.
     /// Apart from these no other session is closed, unless the machine closes it as out of memory while it works on the item.
-    /// Returns false if no item was seen or the session has no place; then nothing is changed. Takes no mutex and never waits.
+    /// Returns false if no item was seen or the session has no place; then nothing is changed. Takes no mutex, and waits for no
+    /// other thread.
     pub fn turn(&mut self, alloc: Global, moment: u64, serial: u64) -> bool
         ensures goes { DeskGoesOn moment self.old self.new }
         ensures rings { StayAs SameLane self.old.lanes.items self.new.lanes.items }
