@@ -196,7 +196,7 @@ where
     is_counted(alloc, fitted, told)
 }
 
-/// Fails unless these are served at a desk, and so.
+/// Fails unless these links are served at a desk with that outcome.
 fn counts_after<R, K, D, S>(
     rt: &R,
     alloc: Global,

@@ -36,8 +36,7 @@ struct Seen {
 }
 
 impl Seen {
-    /// Whether the client was told, or else is closed. It is told once what it was written was flushed, and closed once both its
-    /// ends are closed.
+    /// For the word `told`, whether the client's writer was flushed; for any other word, whether both its ends are closed.
     fn is_so(&self, word: &str) -> bool {
         if word == "told" {
             return self.told.load(Ordering::SeqCst) > 0;
@@ -349,7 +348,8 @@ const PATIENT: &str = r#"{"id":0,"method":"list_dbs","params":[]}
 after 1 closed
 {"id":1,"method":"echo","params":[2]}"#;
 
-/// Is damaged after its message, once the other client has been answered.
+/// Sends a message and then damage, once the other client has been told. Its last line waits for what never comes, so that it
+/// is closed by the damage and not by the end of its input.
 const DAMAGED: &str = r#"after 0 told
 {"id":0,"method":"list_dbs","params":[]}]
 after 9 told"#;

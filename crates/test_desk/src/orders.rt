@@ -15,7 +15,8 @@ use std::test::Fail;
 use std::thread;
 use std::thread::Threads;
 
-/// What a book answered, in the order of the calls.
+/// What a book answered: whether the workers may begin, whether each note was made, the notes that were taken, and how many
+/// were made.
 fn answers_of(
     alloc: Global,
     begun: [Option<bool>; 2],
@@ -145,7 +146,8 @@ fn note_twice<R: Wait, L: Ledger>(rt: &R, order: &Order<L>, share: Share<L>)
     note(rt, order, &mut sixth);
 }
 
-/// What a desk finds that waits briefly: nothing where nothing is noted, and then a note, with and without a look for it.
+/// What a desk that waits briefly finds: nothing before a note is made, a note after looking for it, the next one without
+/// looking, and then nothing.
 fn found_in<R: Wait + Clock, L: Ledger>(
     rt: &R,
     order: &Order<L>,

@@ -66,7 +66,7 @@ fn lines_of(alloc: Global, ring: &mut Consumer<Item>) -> Result<String, AllocErr
 /// How many notes a worker made, the first of them, and its cause.
 type Noted = (u64, Option<u64>, ReadCause);
 
-/// The last line: the same, with how often the gate was passed before the cause.
+/// The last line: the number of notes, the first of them, how often the gate was passed, and the cause.
 fn noted_text(alloc: Global, noted: Noted, passed: u64) -> Result<String, AllocError> {
     let (noted, first, cause) = noted;
     format!(in alloc; "{noted} {first:?} {passed} {cause:?}")

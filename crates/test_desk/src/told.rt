@@ -9,7 +9,7 @@ use std::sync::ledger::{Ledger, Share};
 use std::test::Fail;
 use test_basics::is_text;
 
-/// Fails unless this text was made.
+/// Fails unless a text was made and is the wanted one.
 pub(crate) fn tells(
     alloc: Global,
     told: Result<String, AllocError>,

@@ -220,8 +220,8 @@ fn a_turn_takes_from_one_ring_alone(rt: HostRuntime) -> Result<(), Fail> {
     answers(rt.alloc(), ONE_RING_ALONE)
 }
 
-/// The second session owns the lock, and its ring has no room for the reply to its last echo. The first session, whose ring is
-/// looked at before, waits for the lock.
+/// The second session owns the lock, and its ring has no room for the reply to its last echo. The first session waits for the
+/// lock, and is notified in the same turn although its ring is filled first.
 const OVERRUN: &str = r#"opens -> 1
 opens -> 2
 brings 2 {"id":1,"method":"lock","params":["L"]}

@@ -231,8 +231,8 @@ where
     }
 }
 
-/// Fails unless each client was opened, answered and closed, and the process has no more threads, descriptors and memory than
-/// after the first of them.
+/// Fails unless each client was answered, the history is full, and the process has no more threads, descriptors and memory
+/// than at the first look, apart from the slack.
 fn nothing_grows(
     alloc: Global,
     entries: Result<Option<usize>, Fail>,

@@ -8,10 +8,10 @@ use test_basics::{Faults, Scripted, agrees};
 
 /// A machine driven by a script, for calls of several sessions.
 ///
-/// `call SERIAL ID METHOD PARAMS` is a call, answered with all that its session was sent since it was last looked at; `got
-/// SERIAL` returns the same without a call. With the id `null` the call is a notification. The other events are `open COUNT`,
-/// which opens COUNT sessions and returns their serials, `end SERIAL` and `tick MOMENT`; `close SERIAL` closes a session that
-/// did not take what was sent to it.
+/// `call SERIAL ID METHOD PARAMS` takes a call, a notification if ID is `null`, and returns all that the session was sent since
+/// the last `call` or `got`. `got SERIAL` returns the same without a call. `open COUNT` opens COUNT sessions and returns their
+/// serials, `end SERIAL` ends the input of a session, and `tick MOMENT` advances time. `close SERIAL` closes a session as
+/// overrun, and returns whether it was open.
 #[derive(Drop)]
 struct Callers {
     core: NetCore,

@@ -31,7 +31,7 @@ fn counted_up(alloc: Global, count: u64) -> Result<String, AllocError> {
 const LOADS: &str =
     r#"{"id":9,"method":"transact","params":["Net",{"op":"select","table":"Switch","where":[],"columns":["load"]}]}"#;
 
-/// What it is answered for each load from the first to the last.
+/// The answer to `LOADS` for each load from `first` to `last`, one per line.
 fn loads(alloc: Global, first: u64, last: u64) -> Result<String, AllocError> {
     let mut answers = String::new(alloc);
     for load in first..last.saturating_add(1) {
@@ -112,7 +112,7 @@ fn commits_after(alloc: Global, done: u64) -> Result<Texts, AllocError> {
     })
 }
 
-/// Fails unless files that stop at each call of these commits, one of which copies the log, have what was answered.
+/// Fails unless files that stop at any call of these commits, one of which copies the log, keep all that was answered.
 fn copies(alloc: Global, texts: &Texts) -> Result<(), Fail> {
     let case = Case {
         before: Before::Messages(texts.before.as_str()),

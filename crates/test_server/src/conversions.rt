@@ -36,8 +36,8 @@ pub(crate) const ONE: &str =
 const TWO: &str = r#"Switch 2 1 {"load":0,"main":["set",[]],"name":"s1","ports":["set",[]]}
 Switch 4 3 {"load":0,"main":["set",[]],"name":"s2","ports":["set",[]]}"#;
 
-/// What a machine over a keeper replies to a message, under this schema; the hundredth identifier is the next one. If it can't
-/// be opened, why.
+/// The reply of a machine over this keeper and under this schema to a message, or why the machine can't be opened. The next
+/// identifier that it draws is the hundredth.
 fn reply_over<K: Keeper + Drop>(
     alloc: Global,
     keeper: K,
@@ -56,7 +56,8 @@ fn fault_text(alloc: Global, fault: OpenFault) -> Result<String, AllocError> {
     format!(in alloc; "{fault}")
 }
 
-/// Fails unless a machine over a keeper replies the last text of a case to its message, under its schema.
+/// Fails unless a machine over this keeper gives the wanted reply. A case is the stored lines, the schema that the machine is
+/// opened with, a message, and the wanted reply or refusal.
 fn is_reply<K: Keeper + Drop>(alloc: Global, keeper: K, case: [&str; 4]) -> Result<(), Fail> {
     let [_, schema, message, wanted] = case;
     let found = reply_over(alloc, keeper, schema, message)?;
@@ -101,7 +102,8 @@ fn told<S: Scripted>(alloc: Global, keeping: &mut S) -> Result<String, Fail> {
     Ok(text)
 }
 
-/// The same for a keeper of format 1 that holds these lines of Net, or else for one of format 2 with the same rows.
+/// The same after an opening with this schema, for a keeper that held these lines of Net: in format 1 if `is_whole`, otherwise
+/// in format 2.
 fn stored(alloc: Global, is_whole: bool, lines: &str, schema: &str) -> Result<String, Fail> {
     if is_whole {
         stored_after(alloc, whole_keeper_of(alloc, NET, lines)?, schema)
@@ -110,7 +112,7 @@ fn stored(alloc: Global, is_whole: bool, lines: &str, schema: &str) -> Result<St
     }
 }
 
-/// Fails unless that keeper holds this then, if it held one switch.
+/// Fails unless a keeper that held one switch holds this after such an opening.
 fn is_stored(
     alloc: Global,
     is_whole: bool,
@@ -211,7 +213,7 @@ fn a_refused_conversion_changes_nothing(rt: HostRuntime) -> Result<(), Fail> {
     is_stored(rt.alloc(), true, TEXTS, wanted)
 }
 
-/// A conversion over files that fail. The look is at the stored schema.
+/// A conversion over files that fail. The look opens the files under the stored schema.
 const CONVERSION: Case<'static> = Case {
     before: Before::Messages(
         r#"{"id":1,"method":"transact","params":["Net",{"op":"insert","table":"Switch","row":{"name":"s1"}}]}"#,

@@ -1,6 +1,5 @@
 //! Transactions over a database file and its log, one of which fails after some number of calls, and what is found when both
-//! are opened again: after the program ended, when all that was written is there, and after the machine stopped, when what was
-//! not synced is lost.
+//! are opened again: after the program ended, with all that was written, and after a crash, which loses what was not synced.
 
 use crate::stops::{Before, Case, fails_once, stops};
 use std::alloc::{AllocError, Global};
@@ -80,7 +79,7 @@ fn a_stopped_update_is_found_whole_or_not_at_all(rt: HostRuntime) -> Result<(), 
     stops(rt.alloc(), &UPDATE, ONE)
 }
 
-/// With a switch go its two ports, and the other switch loses its reference to one of them.
+/// Deleting a switch also deletes its two ports, and clears the other switch's weak reference to one of them.
 const DELETE: Case<'static> = Case {
     before: Before::Messages(
         r#"{"id":1,"method":"transact","params":["Net",{"op":"insert","table":"Port","uuid-name":"p1","row":{"name":"p1"}},{"op":"insert","table":"Port","uuid-name":"p2","row":{"name":"p2"}},{"op":"insert","table":"Switch","row":{"name":"s1","ports":["set",[["named-uuid","p1"],["named-uuid","p2"]]]}},{"op":"insert","table":"Switch","row":{"main":["named-uuid","p1"],"name":"s2"}}]}"#,

@@ -1,5 +1,5 @@
-//! Sessions whose input ends or fails after each number of bytes, whose writer takes each number of bytes, and whose requests
-//! are deeply nested.
+//! Sessions whose input ends or fails after any number of bytes, whose writer stops after any number of bytes, and whose
+//! requests are deeply nested.
 
 use crate::made::made;
 use crate::serve::{ALL, reader_of, tells, writer_of};
@@ -186,7 +186,7 @@ fn told_with(alloc: Global, cause: &str, more: &str) -> Result<String, AllocErro
     format!(in alloc; "{cause} {reply}{more}")
 }
 
-/// Fails unless a session that sends these is sent the reply to the first, then this, and no more.
+/// Fails unless a session whose echo nests this deep is sent the reply to the first request, then `more`, and ends by `cause`.
 fn echoes<H: Wait>(
     rt: &H,
     alloc: Global,

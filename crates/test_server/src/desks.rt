@@ -196,7 +196,7 @@ fn are_answered(told: &str) -> bool {
     is_answered(told, 0) && is_answered(told, 1)
 }
 
-/// Whether the switch of each client that was answered so is there.
+/// Whether the switch of each client that was answered without an error was found.
 fn has_answered(outcome: &Outcome) -> bool {
     let (told, found) = (outcome.told.as_str(), outcome.found.as_str());
     (!is_answered(told, 0) || found.contains("\"name\":\"s1\""))

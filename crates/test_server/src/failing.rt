@@ -6,8 +6,8 @@ use sqlite_disk::{Crash, Disk, Fuse, Memory};
 use std::alloc::Global;
 use std::test::Fail;
 
-/// A disk in memory of which a call fails. It is of one type, however it fails: code over files is proved and built again for
-/// each type of them.
+/// A disk in memory that fails. Both kinds of failure share this type, because code over files is proved and built again for
+/// each type of file.
 type FailingDisk = FailsOnce<Fuse<Memory>>;
 
 /// A database file and its log, one of which fails.

@@ -1,5 +1,6 @@
 //! Tests of the server: the machine with transactions, waits, locks and monitors; its streams; one session over a reader and
-//! a writer; a desk over files that fail; and the program's arguments and endings.
+//! a writer; a machine and a desk over files that fail; newer schemas and an older stored format; and the program's arguments
+//! and endings.
 #![tactic(auto)]
 
 #[cfg(test)]

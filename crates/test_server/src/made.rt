@@ -21,7 +21,7 @@ pub(crate) fn converses_as(alloc: Global, made: Result<String, AllocError>) -> R
     converses(alloc, made?.as_str())
 }
 
-/// Fails unless this text was made.
+/// Fails unless a text was made and is the wanted one.
 pub(crate) fn tells_as(
     alloc: Global,
     told: Result<String, AllocError>,

@@ -7,8 +7,7 @@ use std::alloc::{AllocError, Global};
 use std::test::Fail;
 use test_basics::Faults;
 
-/// A row is inserted, one is renamed, and one is deleted: each update comes before the reply. A change of its load alone
-/// sends none.
+/// A row is inserted, renamed and deleted: each update comes before the reply. A change of its load alone sends none.
 const TOLD: &str =
     r#">{"id":1,"method":"monitor","params":["Net","m",{"Switch":[{"columns":["name"]}]}]}
 <{"error":null,"id":1,"result":{}}

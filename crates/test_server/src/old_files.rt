@@ -9,8 +9,8 @@ use std::alloc::Global;
 use std::test::Fail;
 use test_basics::{NET, is_text, whole_file};
 
-/// What a machine replies under this schema when all switches are selected, in the database of format 1 with one switch under
-/// Net; and how many rows its tables have then. The hundredth identifier comes next.
+/// Opens a machine with this schema over a database of format 1 that holds one switch under Net. Returns its reply to a select
+/// of all switches, and how many rows the tables have afterwards. The next identifier that it draws is the hundredth.
 fn found(alloc: Global, schema: &str) -> Result<String, Fail> {
     let statements = whole_file(alloc, NET, ONE)?;
     let image = image_after_statements(alloc, statements.as_str())?;
@@ -68,7 +68,8 @@ const KEPT: &str =
 const NAMES: &str =
     r#"{"id":2,"method":"transact","params":["Net",{"op":"select","table":"Switch","where":[],"columns":["name"]}]}"#;
 
-/// Fails unless this comes of the first opening over files that fail once and go on, or else over files that stop.
+/// Fails unless these are the outcomes of the first opening: over files that fail once and go on if `is_once`, otherwise over
+/// files that stop.
 fn opens_first(
     alloc: Global,
     is_once: bool,

@@ -92,7 +92,7 @@ pub(crate) struct Run<'a> {
     pub messages: &'a str,
 }
 
-/// The same with what the machine takes over.
+/// A run whose schema has been read, with the text for a new store.
 #[derive(Drop)]
 struct Ready<'a> {
     drawn: u64,
@@ -218,10 +218,10 @@ fn done_at<S: Alter + Drop>(
     Ok(connection.into_store())
 }
 
-/// Does this over files, which are given back. The number goes into their log: it is another one for each opening of the same
-/// files. Does nothing if they are not opened.
+/// Does this over files, which are given back. Does nothing if they are not opened. The number goes into their log, and differs
+/// for each opening of the same files.
 ///
-/// It is generic over the files, since the proof for a kind of file is longer.
+/// It is generic over the files, because the proof for one kind of file is longer.
 fn done_in<D: Disk + Drop>(
     alloc: Global,
     files: Files<D>,

@@ -53,7 +53,7 @@ pub(crate) fn writer_of(alloc: Global) -> SlowWriter {
     }
 }
 
-/// Why a session ended. It must be the end of its input if and only if its reader has ended.
+/// Why a session ended. Fails unless the cause is `InputEnded` exactly when the reader has ended.
 fn cause_of(served: Result<Cause, StepFault>, has_ended: bool) -> Result<Cause, Fail> {
     let cause = served?;
     if has_ended != (cause == Cause::InputEnded) {

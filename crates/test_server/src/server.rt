@@ -24,7 +24,7 @@ fn only(alloc: Global, event: StreamEvent) -> Result<Vec<StreamEvent>, AllocErro
 }
 
 impl Server {
-    /// Opens session 1. If it is not opened, no conversation agrees.
+    /// Opens session 1. A failure is not reported here, but every conversation that expects a reply then fails.
     fn open(&mut self, alloc: Global) {
         if let Ok(events) = only(alloc, StreamEvent::Open) {
             self.streams.run(alloc, events);

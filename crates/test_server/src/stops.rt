@@ -28,7 +28,7 @@ pub(crate) struct Case<'a> {
     pub look: &'a str,
     /// Its answers: before the messages, and after each of them.
     pub answers: &'a str,
-    /// Whether replies and answer give outcomes in full.
+    /// Whether an outcome is the replies and the answer in full, instead of how many messages were answered and found.
     pub is_in_full: bool,
     /// Whether no call of the opening fails.
     pub is_opened: bool,
@@ -155,8 +155,8 @@ fn add_outcome(
     add_new(outcomes, outcome(alloc, case, replies, found.as_str())?)
 }
 
-/// Adds what comes of a run over files that fail: where the program ends after it, and nothing that was written is lost, and
-/// where the machine stops. Returns whether a call failed.
+/// Adds the outcomes of a run over files that fail: if the program ends after it, which loses nothing that was written, and
+/// if there is a crash. Returns whether a call failed.
 fn add_outcomes(
     alloc: Global,
     case: &Case<'_>,

@@ -34,8 +34,8 @@ const RELATED: &str =
 >{"id":2,"method":"transact","params":["Net",{"op":"select","table":"Port","where":[["tag","<",10]],"columns":["name"]}]}
 <{"error":null,"id":2,"result":[{"rows":[{"name":"a"}]}]}"#;
 
-/// After the operation that fails the results are null, and the table is as before. All that the transaction wanted was
-/// drawn.
+/// After the operation that fails the results are null, and the table is as before. An identifier was drawn even for the
+/// insert that was not performed.
 const UNDONE: &str =
     r#">{"id":1,"method":"transact","params":["Net",{"op":"insert","table":"Switch","row":{"name":"s1"}},{"op":"select","table":"Swich","where":[],"columns":[]},{"op":"insert","table":"Switch","row":{"name":"s2"}}]}
 <{"error":null,"id":1,"result":[{"uuid":["uuid","00000000-0000-4000-8000-000000000002"]},{"error":"unknown table"},null]}
@@ -82,7 +82,7 @@ const REFUSED: &str =
 >{"id":7,"method":"transact","params":["Net",{"op":"select","table":"Port","where":[],"columns":["name"]}]}
 <{"error":null,"id":7,"result":[{"rows":[]}]}"#;
 
-/// After the device has failed nothing more is committed, and what was committed can still be read.
+/// After the device has failed nothing more is committed, but transactions that change nothing are still answered.
 const SEALED: &str =
     r#">{"id":1,"method":"transact","params":["Net",{"op":"insert","table":"Switch","row":{"name":"s1"}}]}
 <{"error":null,"id":1,"result":[{"uuid":["uuid","00000000-0000-4000-8000-000000000002"]},{"error":"I/O error"}]}
@@ -144,7 +144,7 @@ const MISREAD: &str =
 >{"id":9,"method":"transact","params":["Net",{"op":"select","table":"Switch","where":[["load","==",["set",[4,4]]]],"columns":["nam"]}]}
 <{"error":null,"id":9,"result":[{"error":"unknown column"}]}"#;
 
-/// Each operation once, in one transaction or two.
+/// Every operation except `assert`, at least once.
 const OPERATIONS: &str =
     r#">{"id":1,"method":"transact","params":["Net",{"op":"insert","table":"Switch","row":{"name":"s1","ports":["named-uuid","p"]}},{"op":"insert","table":"Port","uuid-name":"p","row":{"name":"p1"}},{"op":"comment","comment":"two rows"}]}
 <{"error":null,"id":1,"result":[{"uuid":["uuid","00000000-0000-4000-8000-000000000002"]},{"uuid":["uuid","00000000-0000-4000-8000-000000000003"]},{}]}

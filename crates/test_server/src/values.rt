@@ -11,7 +11,7 @@ const WRITTEN: &str =
 >{"id":2,"method":"transact","params":["Net",{"op":"insert","table":"Switch","row":{"load":-9223372036854775808,"ports":["set",[["uuid","00000000-0000-4000-8000-0000000000AB"],["uuid","00000000-0000-4000-8000-000000000001"]]]}},{"op":"select","table":"Switch","where":[],"columns":["load","ports"]},{"op":"delete","table":"Switch","where":[]}]}
 <{"error":null,"id":2,"result":[{"uuid":["uuid","00000000-0000-4000-8000-000000000004"]},{"rows":[{"load":-9223372036854775808,"ports":["set",[["uuid","00000000-0000-4000-8000-000000000001"],["uuid","00000000-0000-4000-8000-0000000000ab"]]]}]},{"count":1}]}"#;
 
-/// Each is a syntax error, except a real, which no request may contain.
+/// The largest integer is accepted. Each of the other values is a syntax error, except a real, which no request may contain.
 const UNREAD: &str =
     r#">{"id":1,"method":"transact","params":["Net",{"op":"insert","table":"Switch","row":{"load":9223372036854775807}}]}
 <{"error":null,"id":1,"result":[{"uuid":["uuid","00000000-0000-4000-8000-000000000002"]}]}

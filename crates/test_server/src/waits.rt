@@ -343,8 +343,8 @@ fn push_waiter(alloc: Global, script: &mut String, serial: u64) -> Result<(), Al
     script.push_str(commands.as_str())
 }
 
-/// As many transactions wait as may: 64 of each of 64 sessions. Once what they wait for is inserted, each is answered. What
-/// session 64 is sent, its insert first, follows.
+/// As many transactions wait as may: 64 of each of 64 sessions. Session 64 cancels one and inserts what the others wait for.
+/// Sessions 1 and 64 then have all their replies, session 64 first the one to its insert.
 fn all_that_may(alloc: Global) -> Result<String, AllocError> {
     let mut script = String::new(alloc);
     for serial in 1..65 {

@@ -6,7 +6,7 @@ use std::test::Fail;
 use test_basics::{Scripted, agrees};
 
 /// Arguments after the program's name, each followed by a comma, and the settings: the schema, the database, the address, the
-/// number of sessions, and whether the streams are named.
+/// number of sessions, and whether `--stdio` is given.
 const TAKEN: &str = " -> -|-|-|-|false
 --stdio, -> -|-|-|-|true
 --schema,a.json, -> a.json|-|-|-|false
