@@ -228,14 +228,14 @@ fn told_of(alloc: Global, ended: Result<Ending, Fail>, output: Vec<u8>) -> Resul
     Ok(format!(in alloc; "{ending:?} {output}")?)
 }
 
-/// The same for a session over this input.
-fn told_over_streams<R>(rt: &R, alloc: Global, input: &[u8]) -> Result<String, Fail>
+/// The same at an endpoint, with this input of the pipes.
+fn told_at<R>(rt: &R, alloc: Global, endpoint: Endpoint, input: &[u8]) -> Result<String, Fail>
 where
     R: Net<Listener = TcpListener, Stream = TcpStream> + Threads + Wait + Clock + Eprint + Sync,
 {
     let mut output = Vec::new(alloc);
     let mut pipes = pipes_over(rt, alloc, input, &mut output)?;
-    let ended = ending_of(rt, alloc, Endpoint::Pipes, &mut pipes);
+    let ended = ending_of(rt, alloc, endpoint, &mut pipes);
     drop(pipes);
     told_of(alloc, ended, output)
 }
@@ -243,7 +243,7 @@ where
 #[test]
 fn a_session_is_served_over_streams(rt: HostRuntime) -> Result<(), Fail> {
     let input = br#"{"id":1,"method":"echo","params":[2]}"#.as_slice();
-    let told = told_over_streams(&rt, rt.alloc(), input)?;
+    let told = told_at(&rt, rt.alloc(), Endpoint::Pipes, input)?;
     let wanted = r#"InputEnded {"error":null,"id":1,"result":[2]}"#;
     is_text(rt.alloc(), told.as_str(), wanted)
 }
@@ -252,7 +252,7 @@ fn a_session_is_served_over_streams(rt: HostRuntime) -> Result<(), Fail> {
 fn nothing_is_served_where_no_address_is(rt: HostRuntime) -> Result<(), Fail> {
     let address = Text::from_str(rt.alloc(), "127.0.0.1")?;
     let endpoint = Endpoint::Address(address, Some(1));
-    let mut pipes = pipes_over(&rt, rt.alloc(), b"".as_slice(), Vec::new(rt.alloc()))?;
-    let ending = ending_of(&rt, rt.alloc(), endpoint, &mut pipes)?;
-    is_ending(rt.alloc(), ending, "Streams")
+    let input = br#"{"id":1,"method":"echo","params":[2]}"#.as_slice();
+    let told = told_at(&rt, rt.alloc(), endpoint, input)?;
+    is_text(rt.alloc(), told.as_str(), "Streams ")
 }

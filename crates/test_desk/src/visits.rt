@@ -74,12 +74,14 @@ fn serve_first<R: Threads + Wait + Clock + Sync>(
 }
 
 /// After the first client was answered, the second sends a request and a stray bracket. It does not end, but its connection
-/// is closed after the reply.
+/// is closed after the reply. The first is answered again.
 const DAMAGED: &str = r#"1 sends {"id":0,"method":"list_dbs","params":[]}
 1 reads {"error":null,"id":0,"result":["Net"]}
 2 sends {"id":0,"method":"list_dbs","params":[]}]
 2 reads {"error":null,"id":0,"result":["Net"]}
-2 meets end"#;
+2 meets end
+1 sends {"id":1,"method":"list_dbs","params":[]}
+1 reads {"error":null,"id":1,"result":["Net"]}"#;
 
 /// Follows this script, and then ends the first client. Both have ended afterwards, however the talk went, because serving
 /// waits for that.
@@ -92,7 +94,7 @@ fn talk_and_end(alloc: Global, first: &TcpStream, second: &TcpStream) -> Option<
     meets_end(first)
 }
 
-/// Fails unless both have talked, and each was opened, asked once, and was closed.
+/// Fails unless both have talked, the first asked twice and the second once, and each was opened and closed.
 fn is_served(
     alloc: Global,
     entries: Result<Option<usize>, Fail>,
@@ -100,7 +102,7 @@ fn is_served(
 ) -> Result<(), Fail> {
     let entries = entries?;
     let told = format!(in alloc; "{entries:?} {}", talked.is_some())?;
-    is_text(alloc, told.as_str(), "Some(6) true")
+    is_text(alloc, told.as_str(), "Some(7) true")
 }
 
 /// The same with clients that talk while they are served.

@@ -226,11 +226,13 @@ const CONVERSION: Case<'static> = Case {
     is_opened: false,
 };
 
-/// The machine is not opened, and the database is the stored one, or the converted one, which the stored schema does not open;
-/// or the machine is opened.
+/// The machine is not opened, and the database is the stored one, which is opened under its schema, or the converted one, which
+/// is opened under the newer one; or the machine is opened, and the database is the converted one.
 const CONVERTED: &str = r#"{"error":null,"id":9,"result":[{"rows":[{"name":"s1"}]}]}
 
+{"error":null,"id":2,"result":[{"rows":[{"name":"s1","note":""}]}]}
 
+{"error":null,"id":2,"result":[{"rows":[{"name":"s1","note":""}]}]}
 {"error":null,"id":2,"result":[{"rows":[{"name":"s1","note":""}]}]}
 
 "#;

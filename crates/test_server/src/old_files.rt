@@ -96,12 +96,14 @@ fn a_first_opening_that_fails_once_leaves_the_rows(rt: HostRuntime) -> Result<()
     opens_first(rt.alloc(), true, NET, NAMES, KEPT)
 }
 
-/// The machine is not opened, and the database is the stored one, or the converted one, which Net does not open; or the machine
-/// is opened.
+/// The machine is not opened, and the database is the stored one, which is opened under Net, or the converted one, which is
+/// opened under the newer schema; or the machine is opened, and the database is the converted one.
 const CONVERTED: &str =
     r#"{"error":null,"id":9,"result":[{"rows":[{"_version":["uuid","00000000-0000-0000-0000-000000000001"],"name":"s1"}]}]}
 
+{"error":null,"id":2,"result":[{"rows":[{"name":"s1","note":""}]}]}
 
+{"error":null,"id":2,"result":[{"rows":[{"name":"s1","note":""}]}]}
 {"error":null,"id":2,"result":[{"rows":[{"name":"s1","note":""}]}]}
 
 "#;

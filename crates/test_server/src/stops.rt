@@ -24,7 +24,7 @@ pub(crate) struct Case<'a> {
     pub schema: &'a str,
     /// The messages that are taken over files that fail.
     pub messages: &'a str,
-    /// The message that is answered with what the database holds.
+    /// The message that is answered with what the database holds, under the schema Net.
     pub look: &'a str,
     /// Its answers: before the messages, and after each of them.
     pub answers: &'a str,
@@ -83,11 +83,21 @@ fn image_before(alloc: Global, case: &Case<'_>) -> Result<Image, Fail> {
     }
 }
 
-/// The reply of a machine over files that hold an image, under the schema Net.
-fn found(alloc: Global, image: &Image, look: &str) -> Result<String, Fail> {
+/// The replies of a machine over files that hold an image; none if it is not opened.
+fn replies_over(alloc: Global, image: &Image, work: Work<'_>) -> Result<String, Fail> {
     let mut replies = String::new(alloc);
-    left_after(alloc, image, NEVER, 3, under_net(look), &mut replies)?;
+    left_after(alloc, image, NEVER, 3, work, &mut replies)?;
     Ok(replies)
+}
+
+/// What files hold that hold an image: the answer to the look of a case under the schema Net; or, if the machine is not opened
+/// under Net, the answers to the messages of the case under its schema.
+fn found(alloc: Global, case: &Case<'_>, image: &Image) -> Result<String, Fail> {
+    let found = replies_over(alloc, image, under_net(case.look))?;
+    if found.as_str().is_empty() {
+        return replies_over(alloc, image, case.work());
+    }
+    Ok(found)
 }
 
 /// The number of replies without an error. Fails if one follows a reply with an error.
@@ -151,7 +161,7 @@ fn add_outcome(
     image: &Image,
     outcomes: &mut Vec<String>,
 ) -> Result<(), Fail> {
-    let found = found(alloc, image, case.look)?;
+    let found = found(alloc, case, image)?;
     add_new(outcomes, outcome(alloc, case, replies, found.as_str())?)
 }
 

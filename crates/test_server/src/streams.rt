@@ -146,13 +146,13 @@ fn answered(alloc: Global, count: usize) -> Result<String, AllocError> {
     format!(in alloc; ">{echo}\n<{reply}")
 }
 
-/// A conversation in which an echo is not answered.
+/// A conversation in which an echo is not answered, and closes the session.
 fn unanswered(alloc: Global, count: usize) -> Result<String, AllocError> {
     let echo = echo_of(alloc, count)?;
-    format!(in alloc; ">{echo}\n<")
+    format!(in alloc; "entries -> 1\n>{echo}\n<\nentries -> 2")
 }
 
-/// A message of 1,048,576 bytes is answered, and one that is a byte longer is not.
+/// A message of 1,048,576 bytes is answered, and one that is a byte longer closes the session.
 #[test]
 fn longest_message(rt: HostRuntime) -> Result<(), Fail> {
     let lengths = lengths_text(rt.alloc(), 1_048_538);

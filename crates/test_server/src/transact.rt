@@ -82,16 +82,19 @@ const REFUSED: &str =
 >{"id":7,"method":"transact","params":["Net",{"op":"select","table":"Port","where":[],"columns":["name"]}]}
 <{"error":null,"id":7,"result":[{"rows":[]}]}"#;
 
-/// After the device has failed nothing more is committed, but transactions that change nothing are still answered.
+/// The device fails at the second commit. Nothing more is committed then, but transactions that change nothing are still
+/// answered, by what was committed before.
 const SEALED: &str =
     r#">{"id":1,"method":"transact","params":["Net",{"op":"insert","table":"Switch","row":{"name":"s1"}}]}
-<{"error":null,"id":1,"result":[{"uuid":["uuid","00000000-0000-4000-8000-000000000002"]},{"error":"I/O error"}]}
->{"id":2,"method":"transact","params":["Net",{"op":"select","table":"Switch","where":[],"columns":["name"]}]}
-<{"error":null,"id":2,"result":[{"rows":[]}]}
->{"id":3,"method":"transact","params":["Net",{"op":"insert","table":"Switch","row":{"name":"s2"}}]}
-<{"error":null,"id":3,"result":[{"uuid":["uuid","00000000-0000-4000-8000-000000000005"]},{"error":"I/O error"}]}
->{"id":4,"method":"transact","params":["Net"]}
-<{"error":null,"id":4,"result":[]}"#;
+<{"error":null,"id":1,"result":[{"uuid":["uuid","00000000-0000-4000-8000-000000000002"]}]}
+>{"id":2,"method":"transact","params":["Net",{"op":"insert","table":"Switch","row":{"name":"s2"}}]}
+<{"error":null,"id":2,"result":[{"uuid":["uuid","00000000-0000-4000-8000-000000000004"]},{"error":"I/O error"}]}
+>{"id":3,"method":"transact","params":["Net",{"op":"select","table":"Switch","where":[],"columns":["name"]}]}
+<{"error":null,"id":3,"result":[{"rows":[{"name":"s1"}]}]}
+>{"id":4,"method":"transact","params":["Net",{"op":"insert","table":"Switch","row":{"name":"s3"}}]}
+<{"error":null,"id":4,"result":[{"uuid":["uuid","00000000-0000-4000-8000-000000000007"]},{"error":"I/O error"}]}
+>{"id":5,"method":"transact","params":["Net"]}
+<{"error":null,"id":5,"result":[]}"#;
 
 /// The store has no room for the first commit, and accepts the second.
 const NO_ROOM: &str =
@@ -228,7 +231,7 @@ fn operations_are_refused(rt: HostRuntime) -> Result<(), Fail> {
 fn a_failed_commit_seals_the_database(rt: HostRuntime) -> Result<(), Fail> {
     let faults = Faults {
         is_too_large: false,
-        good: 0,
+        good: 1,
         bad: 1,
     };
     converses_over(rt.alloc(), faults, SEALED)

@@ -343,8 +343,19 @@ fn push_waiter(alloc: Global, script: &mut String, serial: u64) -> Result<(), Al
     script.push_str(commands.as_str())
 }
 
+/// Adds the replies that sessions 2 to 63 then have.
+fn push_others(alloc: Global, script: &mut String, replies: &str) -> Result<(), AllocError> {
+    for serial in 2..64 {
+        let got = format!(in alloc;
+            "\ngot {serial} -> {{\"error\":null,\"id\":1,\"result\":[{{}}]}}{replies}"
+        )?;
+        script.push_str(got.as_str())?;
+    }
+    Ok(())
+}
+
 /// As many transactions wait as may: 64 of each of 64 sessions. Session 64 cancels one and inserts what the others wait for.
-/// Sessions 1 and 64 then have all their replies, session 64 first the one to its insert.
+/// All sessions then have all their replies, session 64 first the one to its insert.
 fn all_that_may(alloc: Global) -> Result<String, AllocError> {
     let mut script = String::new(alloc);
     for serial in 1..65 {
@@ -360,6 +371,7 @@ got 1 -> {{"error":null,"id":1,"result":[{{}}]}}{replies}
 got 64 -> {{"error":null,"id":65,"result":[{{"uuid":["uuid","00000000-0000-4000-8000-000000001002"]}}]}}{replies}"#
     )?;
     script.push_str(rest.as_str())?;
+    push_others(alloc, &mut script, replies.as_str())?;
     Ok(script)
 }
 
