@@ -205,9 +205,9 @@ fn echoes<H: Wait>(
     )
 }
 
-/// The replies to an echo of 100 arrays, and to the request after it.
-fn deep_replies(alloc: Global) -> Result<String, AllocError> {
-    let nest = nest(alloc, 100)?;
+/// The replies to an echo of this many arrays, and to the request after it.
+fn deep_replies(alloc: Global, levels: usize) -> Result<String, AllocError> {
+    let nest = nest(alloc, levels)?;
     let (_, reply) = ASKED[0];
     format!(in alloc;
         "{{\"error\":null,\"id\":1,\"result\":{nest}}}{reply}",
@@ -217,7 +217,15 @@ fn deep_replies(alloc: Global) -> Result<String, AllocError> {
 
 #[test]
 fn an_echo_may_nest_100_deep_and_not_200(rt: HostRuntime) -> Result<(), Fail> {
-    let replies = deep_replies(rt.alloc())?;
+    let replies = deep_replies(rt.alloc(), 100)?;
     echoes(&rt, rt.alloc(), 100, "InputEnded", replies.as_str())?;
     echoes(&rt, rt.alloc(), 200, "Damaged", "")
+}
+
+/// With the message's own object these are 127 levels and 128.
+#[test]
+fn an_echo_may_nest_126_deep_and_not_127(rt: HostRuntime) -> Result<(), Fail> {
+    let replies = deep_replies(rt.alloc(), 126)?;
+    echoes(&rt, rt.alloc(), 126, "InputEnded", replies.as_str())?;
+    echoes(&rt, rt.alloc(), 127, "Damaged", "")
 }
