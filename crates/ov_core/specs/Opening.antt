@@ -38,6 +38,9 @@ module _ {K D : Type 0} (k : Ghosts K) (draws : D → Uuid → D → Type 0) (ke
     pub start : Follows (opening schema core.state.database) [] none_given core
     pub none_open : core.open_sessions ≡ []
     pub schema_is : core.state.schema ≡ schema
+    -- no try was counted, and the failures are those that the keeper has counted
+    pub tries : core.tries ≡ 0
+    pub failures : core.failures ≡ k.failed core.keeper
     pub opens : OpensDatabase (record {
       schema = schema;
       committed = core.state.database;

@@ -16,6 +16,8 @@ returns-clause-opened g c =
       start = follows_none c.args.schema c.in_ok-database.database _ c.in_ok-database.ensures.rest.0 c.in_ok-database.ensures.rest.1 refl places.history refl;
       none_open = refl;
       schema_is = c.in_ok-database.ensures.rest.0;
+      tries = refl;
+      failures = refl;
       opens = record { version = it.version; drawn = it.drawn; another = it.another; held = it.held; left = it.left; honest = it.honest };
       found = λ now held here. unsealed_held c.args.schema c.in_ok-database.database held c.in_ok-database.ensures.rest.0 c.in_ok-database.ensures.rest.1 (c.shows_left.ensures.held now held here);
     })
