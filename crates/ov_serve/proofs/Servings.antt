@@ -27,7 +27,7 @@ use Rattle.ov_history.specs.History.{KeepsNewest}
 use Rattle.ov_core.specs.Stepping.{closing, Closes}
 use Rattle.ov_history.proofs.Histories.{keeps_last}
 use Rattle.ov_streams.specs.Feeding.{fed_piece}
-use Rattle.ov_serve.specs.Serving.{ServerState, ExtendsHanding, Piece, Pieces, most_piece_bytes, bytes_of, piece_events, events_of, TellsMoments, IsCauseIn, ClosesAfter, ClosesFor, EndsServing, Served}
+use Rattle.ov_serve.specs.Serving.{ServerState, ExtendsHanding, Piece, Pieces, IsSized, bytes_of, piece_events, events_of, TellsMoments, IsCauseIn, ClosesAfter, ClosesFor, EndsServing, Served}
 use Rattle.ov_ends.specs.States.{SourceState, SinkState}
 use Rattle.ov_ends.specs.Writing.{WritesOf}
 use Rattle.ov_serve.specs.Progress.{Sends, stream_cause, IsShut, StandsAfter, ServesPiece, ServedSoFar, ServedAndFed}
@@ -117,9 +117,9 @@ module _ {K D C : Type 0} (tells : C → ℕ → C → Type 0) (n : ℕ) (old : 
 
   -- a piece was read and entered, and time passed after it, or not
   pub then_fed : (a : ServerState K D C) (b : CoreState K D) (piece : List ℕ) (reader : SourceState) (clock : C) (is_all : Bool) (cutter : CutterState) → is_open a.core.state n ≡ true → (done : ServedSoFar tells n true old a)
-      → length piece ≤ most_piece_bytes → reader.read ≡ a.reader.read ++ piece → ServesPiece tells (fed_piece n (bytes_of done.pieces) piece) (with_clock a.core a.clock) is_all (with_clock b clock) cutter
+      → IsSized piece → reader.read ≡ a.reader.read ++ piece → ServesPiece tells (fed_piece n (bytes_of done.pieces) piece) (with_clock a.core a.clock) is_all (with_clock b clock) cutter
       → ServedAndFed tells n old (record a { core = b; reader = reader; clock = clock }) cutter
-  then_fed a b piece reader clock is_all cutter there done short read serves =
+  then_fed a b piece reader clock is_all cutter there done sized read serves =
       let p : Piece = piece_of serves.at piece serves.ticks in
       let made = makes serves.at n old.core.state done.entries done.streams (bytes_of done.pieces) piece a.core serves.mid cutter there done.stream done.stands done.ticks serves.enters b serves.ticks serves.passes serves.still in
       record {
@@ -136,7 +136,7 @@ module _ {K D C : Type 0} (tells : C → ℕ → C → Type 0) (n : ℕ) (old : 
               (one_after_another (fed_state old.core.state no_streams) (events_of n done.pieces) done.entries (fed_state a.core.state done.streams) (piece_events n p) made.entries (fed_state b.state (with_fed done.streams n piece)) done.expands made.expands);
           stream = fed_own done.streams n piece ∙ (ap (λ (bytes : List ℕ). bytes ++ piece) done.stream ∙ sym (bytes_of-more done.pieces p));
           ticks = made.passes;
-          sizes = All-push (λ (q : Piece). length q.bytes ≤ most_piece_bytes) done.pieces p done.sizes short;
+          sizes = All-push (λ (q : Piece). IsSized q.bytes) done.pieces p done.sizes sized;
           moments = told_more tells old.clock a.clock clock done.pieces p done.moments serves.reported;
           serial = done.serial;
           stands = made.stands;

@@ -17,7 +17,7 @@ use Rattle.ov_sessions.specs.declared.session.Session.{Session}
 use Rattle.ov_history.specs.declared.event.Stepped.TheVariants as answer
 use Rattle.ov_core.specs.Following.{CoreState}
 use Rattle.ov_core.specs.Stepping.{IsEntered}
-use Rattle.ov_serve.specs.Serving.{ServerState, Piece, most_piece_bytes}
+use Rattle.ov_serve.specs.Serving.{ServerState, Piece, IsSized}
 use Rattle.ov_serve.specs.Progress.{ServedAndFed}
 use Rattle.ov_serve.proofs.Closings.{stands_open}
 use Rattle.ov_serve.proofs.Goings.{goes_by_entries}
@@ -44,7 +44,7 @@ serving_opened draws tells session old new cutter cuts entered =
         expands = one_event 0 (fed_state old.core.state no_streams) Opens (entered.entry ∷ []) (fed_state new.state no_streams) expands;
         stream = refl;
         ticks = (λ is. let no : machine.Open ≡ machine.Tick = sym entered.tells.0 ∙ is in cc, λ u stepped. tt);
-        sizes = All-nil (λ (p : Piece). length p.bytes ≤ most_piece_bytes);
+        sizes = All-nil (λ (p : Piece). IsSized p.bytes);
         moments = refl;
         serial = entered.tells.1;
         stands = stands_open session.serial old.core.state (entered.entry ∷ []) new.state (leads_more old.core.state [] old.core.state entered.entry t (leads_none old.core.state) entered.moves.stepped) there

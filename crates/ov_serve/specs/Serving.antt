@@ -1,5 +1,5 @@
 -- What serving a session makes of a core, and of the reader, the writer and the clock around it.
-use Rattle.std.specs.Prelude.{◌≡◌, ◌⊎◌, ◌≤◌, ℕ, List, [], ◌∷◌, ◌++◌, length, Bool, true, false, if◌then◌else◌, Option, Some}
+use Rattle.std.specs.Prelude.{◌≡◌, ◌⊎◌, ◌≤◌, ℕ, ◌<◌, List, [], ◌∷◌, ◌++◌, length, Bool, true, false, if◌then◌else◌, Option, Some}
 use Rattle.std.specs.Io.KnownBytes.{IsAtEnd}
 use Rattle.std.specs.List.{All, flat_map}
 use Rattle.ov_specs.specs.machine.Machine as machine
@@ -61,9 +61,13 @@ Pieces = List Piece
 abbrev pub most_piece_bytes : ℕ
 most_piece_bytes = 4096
 
--- no piece is longer
+-- there are some, and no more
+abbrev pub IsSized : List ℕ → Type 0
+IsSized bytes = (0 < length bytes) × (length bytes ≤ most_piece_bytes)
+
+-- so it is with each piece
 abbrev pub ArePieces : Pieces → Type 0
-ArePieces pieces = All (λ p. length p.bytes ≤ most_piece_bytes) pieces
+ArePieces pieces = All (λ p. IsSized p.bytes) pieces
 
 -- the bytes of the pieces
 abbrev pub bytes_of : Pieces → List ℕ

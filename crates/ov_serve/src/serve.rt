@@ -10,7 +10,7 @@ ghost use Rattle.ov_cut.specs.Reading.{IsFed};
 ghost use Rattle.ov_streams.specs.Feeding.{fed_piece};
 ghost use Rattle.ov_ends.specs.Ends.{KeepsInput, GivesWritten};
 ghost use Rattle.ov_serve.specs.Serving.{ServesSession, Served, server_of};
-ghost use Rattle.ov_serve.specs.Serving.{CauseMatchesCounts, most_piece_bytes};
+ghost use Rattle.ov_serve.specs.Serving.{CauseMatchesCounts, IsSized};
 ghost use Rattle.ov_serve.specs.Progress.{stream_cause, ServesPiece};
 
 use crate::send::write_waiting;
@@ -121,8 +121,8 @@ fn serve_piece<K: Keeper + Drop, D: Draws + Drop, C: Clock>(
     piece: &[u8],
 ) -> Result<(), StepFault>
     requires open { is_open core.old.state session.serial ≡ true }
-    requires short { length piece.now ≤ most_piece_bytes }
-    ensures short { length piece.now ≤ most_piece_bytes }
+    requires sized { IsSized piece.now }
+    ensures sized { IsSized piece.now }
     ensures entered { (stream : List ℕ) → IsFed stream cutter.old
         → ServesPiece C.tells (fed_piece session.serial stream piece.now)
         (with_clock core.old clock.old) (is_ok result) (with_clock core.new clock.new)

@@ -1,14 +1,14 @@
 ghost use Rattle.std.specs.Prelude.{◌≡◌, ◌≢◌, ◌≤◌, ℕ, List, [], ◌∷◌, MatchResult, IfOk, OnOk};
 ghost use Rattle.std.specs.Prelude.{OnErr, IfSome, IfNone, IsSomeAnd, length, take, slice_get};
-ghost use Rattle.std.specs.Prelude.{Some};
+ghost use Rattle.std.specs.Prelude.{Some, false};
 ghost use Rattle.ov_specs.specs.machine.Machine.{Entry, opening, Open as SpecOpen};
-ghost use Rattle.ov_specs.specs.machine.Machine.{Tick as SpecTick};
+ghost use Rattle.ov_specs.specs.machine.Machine.{Tick as SpecTick, is_open};
 ghost use Rattle.ov_specs.specs.schema.SchemaTypes.{Schema};
 ghost use Rattle.ov_specs.specs.rows.Database.{Database};
 ghost use Rattle.ov_specs.specs.machine.History.{joined};
 ghost use Rattle.ov_specs.specs.machine.Streams.{StreamEvent as SpecEvent};
 ghost use Rattle.ov_core.specs.Following.{Follows, HasNoHistory, none_given, and_all_handed};
-ghost use Rattle.ov_outbox.specs.Frames.{waiting_for};
+ghost use Rattle.ov_outbox.specs.Frames.{waiting_for, has_queue};
 ghost use Rattle.ov_core.specs.Stepping.{RefusesStep};
 ghost use Rattle.ov_streams.specs.Running.{FollowsEvents, RunsEvents, RefusesEvent};
 ghost use Rattle.ov_streams.specs.Running.{stream_event_view, stream_events_view};
@@ -124,6 +124,9 @@ impl<K: Keeper + Drop, D: Draws + Drop> Streams<K, D> {
             → waiting_for other self.new.core.outbox ≡ waiting_for other self.old.core.outbox) }
         ensures same { OnOk result (self.new
             ≡ record self.old { core = record self.old.core { outbox = self.new.core.outbox } }) }
+        // A closed session then has no queue.
+        ensures forgotten { OnOk result (is_open self.old.core.state session ≡ false
+            → has_queue session self.new.core.outbox ≡ false) }
         // If an allocation fails, nothing was handed out.
         ensures refused { OnErr result (self.new ≡ self.old) }
     {

@@ -72,7 +72,7 @@ loop-preserved g c = (
       let there = sym c.if-not-is_open.ensures in
       let serves = c.serve_piece.ensures.entered (bytes_of sent.done.pieces) (sent.fed there) in
       then_fed g.C.Clock.tells c.args.session.serial old (record now { core = c.write_waiting.new.core; writer = writer }) c.serve_piece.new.core
-      (take c.in-Some-read.n c.read.new.piece) (source_of g.S.Source c.read.new.self) c.serve_piece.new.clock (is_ok c.serve_piece.result) c.serve_piece.new.cutter there sent.done c.serve_piece.ensures.short c.in-Some-read.ensures.trace serves,
+      (take c.in-Some-read.n c.read.new.piece) (source_of g.S.Source c.read.new.self) c.serve_piece.new.clock (is_ok c.serve_piece.result) c.serve_piece.new.cutter there sent.done c.serve_piece.ensures.sized c.in-Some-read.ensures.trace serves,
   c.in-Some-read.ensures.good ∙ c.loop.invariant.1,
   c.if-not-write_waiting.ensures.faults ∙ c.loop.invariant.2,
   input-more (g.S.Source.bytes_read c.args.reader.now) (g.S.Source.bytes_read c.loop.reader) (g.S.Source.bytes_read c.read.new.self) (g.S.Source.remaining c.args.reader.now) (g.S.Source.remaining c.loop.reader) (g.S.Source.remaining c.read.new.self) c.loop.invariant.3 c.read.ensures.input,
