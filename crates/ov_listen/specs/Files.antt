@@ -1,5 +1,5 @@
 -- What comes of the database in a file.
-use Rattle.std.specs.Prelude.{◌≡◌, ◌⊎◌, ℕ, List, Option, None, Some, Result, Ok, Err, IfOk, MatchOption, MatchResult, IsSomeAnd, if◌then◌else◌}
+use Rattle.std.specs.Prelude.{◌≡◌, ◌⊎◌, ℕ, List, Option, None, Some, Result, Ok, Err, IfOk, IfErr, MatchOption, MatchResult, IsSomeAnd, if◌then◌else◌}
 use Rattle.sqlite.specs.Files.{file_state, over_files}
 use Rattle.sqlite.specs.State.{HasCleanDisk}
 use Rattle.sqlite_disk.specs.declared.Disk as disk
@@ -10,8 +10,8 @@ use Rattle.ov_keeper.specs.declared.fault.KeepFault.{KeepFault}
 use Rattle.ov_keeper.specs.Keeping.{IsLoadFault}
 use Rattle.ov_db.specs.declared.fault.RefusedOpen.{RefusedOpen}
 use Rattle.ov_store.specs.Finding.{new_contents}
-use Rattle.ov_store.specs.StoreState.{MayFind, StoreState}
-use Rattle.ov_files.specs.Found.{HasNoTable, IsFileRefused, IsStoredIn}
+use Rattle.ov_store.specs.StoreState.{IsOfItsFormat, MayFind, StoreState}
+use Rattle.ov_files.specs.Found.{HasNoTable, IsPathRefused, IsStoredIn}
 use Rattle.ov_files.specs.Whole.{WasWhole}
 use Rattle.ov_words.specs.declared.ending.Ending.{Ending}
 use Rattle.ov_words.specs.Causes.{by_keeping, by_open}
@@ -56,12 +56,13 @@ module _ {K D C : Type 0} (e : Environment K D C) where
     pub kept : keeper ≡ keeper_to_close ended
 
 module _ {A : Type 0} {g : disk.Ghosts A} where
-  -- the store of what the files held, or a new one if they had no table; or why there is none
-  pub record IsOfFiles (image : Image) (text : List ℕ) (store : Result (StoreState (FileStore A g)) KeepFault) : Type 0 where
+  -- the store of what the files held, or a new one if they had no table; or why there is none at this path
+  pub record IsOfFiles (path : List ℕ) (image : Image) (text : List ℕ) (store : Result (StoreState (FileStore A g)) KeepFault) : Type 0 where
     pub found : IfOk store (λ s. HasCleanDisk (file_state s.connection) → (contents : Stored) → MayFind over_files s.connection contents
         → (HasNoTable image × (contents ≡ new_contents text)) ⊎ IsStoredIn image contents)
+    pub format : IfOk store (IsOfItsFormat over_files)
     pub fresh : IfOk store (λ s. s.failures ≡ 0)
-    pub refused : IsFileRefused image text store
+    pub refused : IfErr store (IsPathRefused g path image text)
 
   -- A store that was kept is closed: the database file was whole, or there is a fault. Without one nothing is closed.
   abbrev pub ClosesKept : Option (StoreState (FileStore A g)) → Option (Result Unit KeepFault) → Type 0
@@ -72,11 +73,11 @@ module _ {A : Type 0} {g : disk.Ghosts A} where
   abbrev pub IsClosed : {D : Type 0} → StoreEnded (StoreState (FileStore A g)) D → Option (Result Unit KeepFault) → Type 0
   IsClosed ended closing = ClosesKept (keeper_to_close ended) closing
 
-  -- The files had a store or not, and its sessions came to that. It was closed if it was to be.
-  pub record EndsFile {D C : Type 0} (e : Environment (StoreState (FileStore A g)) D C) (image : Image) (service : Service D) (from : PipesState C) (file : FileEnded) (to : PipesState C) : Type 0 where
+  -- The files had a store or not, and its sessions came to that. It was closed if it was to be. Only a refusal names the path.
+  pub record EndsFile {D C : Type 0} (e : Environment (StoreState (FileStore A g)) D C) (path : List ℕ) (image : Image) (service : Service D) (from : PipesState C) (file : FileEnded) (to : PipesState C) : Type 0 where
     pub store : Result (StoreState (FileStore A g)) KeepFault
     pub ended : StoreEnded (StoreState (FileStore A g)) D
-    pub opened : IsOfFiles image service.text store
+    pub opened : IsOfFiles path image service.text store
     pub ends : EndsStore e store (offer_of service) from ended to
     pub ending : file.ending ≡ ending_of_store ended
     pub closed : IsClosed ended file.closing

@@ -119,10 +119,10 @@ where
         (λ ended. EndsMemory (environment_of ⟦<VolatileKeeper as Keeper>⟧ D.draws C.tells) service
         (pipes_state S.Source W.Sink pipes.old) ended (pipes_state S.Source W.Sink pipes.new))) }
     ensures file { IfSome path
-        (λ _. IsInFile result
+        (λ at. IsInFile result
         (λ ended. EndsFile
         (environment_of ⟦<Store<FileStore<FileFrom<T>>> as Keeper>⟧ D.draws C.tells)
-        (image_at T.Start) service
+        at (image_at T.Start) service
         (pipes_state S.Source W.Sink pipes.old) ended (pipes_state S.Source W.Sink pipes.new))) }
 {
     match path {

@@ -124,7 +124,8 @@ fn close_kept<T: Start>(
 /// file is refused, nothing is read from the pipes or written to them, the server does not listen, and nothing is copied into
 /// the file.
 ///
-/// No contract ties a path to a file, so none says that the file which is opened and closed is the one at the path.
+/// A refusal of the file is one of this path. But no contract ties a path to a file, so none says that the file which is opened
+/// and closed is the one at the path.
 pub fn serve_file<R, T, D, S, W, C>(
     host: &HostRuntime,
     rt: &R,
@@ -141,7 +142,7 @@ where
     W: Sink,
     C: Clock,
     ensures { EndsFile (environment_of ⟦<Store<FileStore<FileFrom<T>>> as Keeper>⟧ D.draws C.tells)
-        (image_at T.Start) service (pipes_state S.Source W.Sink pipes.old) result
+        path.now (image_at T.Start) service (pipes_state S.Source W.Sink pipes.old) result
         (pipes_state S.Source W.Sink pipes.new) }
 {
     let Service {

@@ -53,4 +53,4 @@ pub record RunsDatabase {A D C : Type 0} {g : disk.Ghosts A} (memory : Environme
   pub service : Service D
   pub asked : IsServiceAsked settings.schema (endpoint_of settings.listen settings.sessions) service
   pub ends : MatchOption settings.db (IsInMemory ended (λ e. EndsMemory memory service start.pipes e to))
-      (λ _. IsInFile ended (λ e. EndsFile files start.image service start.pipes e to))
+      (λ at. IsInFile ended (λ e. EndsFile files at start.image service start.pipes e to))

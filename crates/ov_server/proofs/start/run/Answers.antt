@@ -5,7 +5,7 @@ use Rattle.ov_server.specs.Running.{IsServiceAsked}
 use Rattle.ov_server.proofs.start.run.Goals as goal
 
 -- what holds where there is no path, and where there is one
-by_path : {A : Type 0} (M F : Type 0) (path : Option A) → IfNone path M → IfSome path (λ _. F) → MatchOption path M (λ _. F)
+by_path : {A : Type 0} (M : Type 0) (F : A → Type 0) (path : Option A) → IfNone path M → IfSome path F → MatchOption path M F
 by_path M F None m f = m
 by_path M F (Some x) m f = f
 
