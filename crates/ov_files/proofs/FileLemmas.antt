@@ -16,7 +16,7 @@ use Rattle.ov_specs.specs.rows.Cells.{Stored}
 use Rattle.ov_tables.specs.Tables.{no_schema, HasOurTables}
 use Rattle.ov_store.specs.StoreState.{StoreState, MayFind, text_in}
 use Rattle.ov_store.specs.Finding.{new_contents, IsNewStore, IsStoreOf, IsRefused}
-use Rattle.ov_files.specs.Found.{HasNoTable, IsStoredIn, IsPathRefused, IsFileRefused, IsMemoryRefused}
+use Rattle.ov_files.specs.Found.{HasNoTable, IsStoredIn, IsPathRefused, IsMemoryRefused}
 use Rattle.ov_files.specs.Causes.{IsNobodyElses}
 
 pub no_tables : (schema : Schema) → schema ≡ no_schema → ¬ HasOurTables schema
@@ -76,11 +76,6 @@ module _ {D : Type 0} {g : disk.Ghosts D} where
       → IfErr r (λ fault. (left : Connected (FileStore D g)) × IsRefused over_files text c left fault) → IfErr r (IsPathRefused g path image text)
   path_refused path image text c (Ok s) fresh opened holds refused = tt
   path_refused path image text c (Err fault) fresh opened holds refused = inr (c, refused.0, record { fresh = fresh; opened = opened; holds = holds; refused = refused.1 })
-
-  -- and what is refused at a path is refused at some path
-  pub file_refused : (path : List ℕ) (image : Image) (text : List ℕ) (r : Result (StoreState (FileStore D g)) KeepFault) → IfErr r (IsPathRefused g path image text) → IsFileRefused image text r
-  file_refused path image text (Ok s) refused = tt
-  file_refused path image text (Err fault) refused = (path, refused)
 
   -- and one that is refused over nothing, of memory
   pub memory_refused : (text : List ℕ) (c : Connected (FileStore D g)) (r : Result (StoreState (FileStore D g)) KeepFault) → IsEmpty (file_state c)

@@ -55,11 +55,6 @@ module _ {D : Type 0} (g : disk.Ghosts D) where
       ⊎ ((found : Connected (FileStore D g)) × (left : Connected (FileStore D g)) × IsFoundRefused image text fault found left)
 
 module _ {D : Type 0} {g : disk.Ghosts D} where
-  -- the same of the file at some path
-  abbrev pub IsFileRefused : Image → List ℕ → Result (StoreState (FileStore D g)) KeepFault → Type 0
-  IsFileRefused image text (Ok s) = Unit {0}
-  IsFileRefused image text (Err fault) = (path : List ℕ) × IsPathRefused g path image text fault
-
   -- a refusal in memory is of the empty files, or of a connection that has no table
   abbrev pub IsMemoryRefused : List ℕ → Result (StoreState (FileStore D g)) KeepFault → Type 0
   IsMemoryRefused text (Ok s) = Unit {0}

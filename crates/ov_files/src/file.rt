@@ -7,7 +7,7 @@ ghost use Rattle.sqlite.specs.Start.{FindsIn};
 ghost use Rattle.sqlite.specs.State.{HasCleanDisk};
 ghost use Rattle.ov_store.specs.StoreState.{MayFind, IsOfItsFormat};
 ghost use Rattle.ov_store.specs.Finding.{new_contents};
-ghost use Rattle.ov_files.specs.Found.{HasNoTable, IsStoredIn, IsFileRefused};
+ghost use Rattle.ov_files.specs.Found.{HasNoTable, IsStoredIn};
 ghost use Rattle.ov_files.specs.Found.{IsPathRefused, IsMemoryRefused};
 ghost use Rattle.ov_files.specs.Looking.{MayBeOpened};
 ghost use Rattle.ov_files.specs.Causes.{FailsToConnect, IsUnopened};
@@ -114,7 +114,6 @@ pub fn store_in_file<S: Start>(
     ensures fresh { IfOk result (λ s. s.failures ≡ 0) }
     ensures cause { IfErr result
         (IsPathRefused ⟦<FileFrom<S> as Disk>⟧ path.now (image_at S.Start) schema) }
-    ensures refused { IsFileRefused (image_at S.Start) schema result }
 {
     test_file(rt, path)?;
     let connection = open_file(rt, path, start)?;

@@ -10,7 +10,7 @@ pub enum LockFault {
     /// The session has asked for this lock before, and has not given it up since (RFC 7047, 4.1.8).
     #[error("lock already requested")]
     AlreadyRequested,
-    /// The session has not asked for this lock (RFC 7047, 4.1.10).
+    /// The session has not asked for this lock (RFC 7047, 4.1.8).
     #[error("lock not held")]
     NotHeld,
     /// The session has asked for 256 locks, as owner or as waiter, and has given up none of them.

@@ -1,7 +1,7 @@
 ghost use Rattle.std.specs.Prelude.{◌≡◌, ◌≤◌, ◌+◌, ◌++◌, ℕ, List, [], ◌∷◌, map, MatchBool};
 ghost use Rattle.ov_specs.specs.machine.Machine.{Sent};
 ghost use Rattle.ov_outbox.specs.Frames.{places_for, HasSameFrames, PostsFrame, PostsSent, posted};
-ghost use Rattle.ov_outbox.specs.Frames.{count_for, TakesPlaces};
+ghost use Rattle.ov_outbox.specs.Frames.{count_for, PostsAll, TakesPlaces};
 
 use crate::frames::FrameQueues;
 use ov_base::Bytes;
@@ -62,6 +62,7 @@ impl Prepared {
     /// Sends all frames, in order. Allocates nothing.
     pub fn release(self, queues: &mut FrameQueues)
         requires { (other : ℕ) → count_for other self ≤ places_for other queues.old }
+        ensures all { PostsAll self queues.old queues.new }
         ensures posts { (sent : List Sent) → self ≡ map posted sent
             → PostsSent sent queues.old queues.new }
         ensures places { TakesPlaces self queues.old queues.new }
@@ -72,12 +73,13 @@ impl Prepared {
         }
     }
 
-    /// Sends this frame in place of the last one, and gives up the others. Allocates nothing.
+    /// Sends this frame in place of the last one, and gives up the others; sends nothing if there is none. Allocates nothing.
     pub fn release_instead(self, queues: &mut FrameQueues, frame: Bytes)
         requires { (other : ℕ) → count_for other self ≤ places_for other queues.old }
         ensures posts { (front : List (ℕ × List ℕ)) (session : ℕ) (former : List ℕ) → self
             ≡ front ++ (session, former) ∷ []
             → PostsFrame session frame queues.old queues.new }
+        ensures none { self ≡ [] → HasSameFrames queues.old queues.new }
         ensures places { TakesPlaces self queues.old queues.new }
     {
         let mut frames = self.frames;

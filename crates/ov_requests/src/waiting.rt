@@ -151,18 +151,21 @@ impl Waiting {
         self.untried.front()
     }
 
-    /// Removes the transaction that was to be tried next.
+    /// Removes the transaction that was to be tried next; does nothing if there is none.
     pub fn drop_next(&mut self)
-        ensures { (first : machine.Outstanding) (rest : List machine.Outstanding) → self.old.untried
+        ensures none { self.old.untried ≡ [] → self.new ≡ self.old }
+        ensures next { (first : machine.Outstanding) (rest : List machine.Outstanding) → self.old.untried
             ≡ first ∷ rest
             → self.new ≡ record self.old { untried = rest } }
     {
         let _first = self.untried.pop_front();
     }
 
-    /// Puts the transaction that was to be tried next after the others, for a wait with this timeout.
+    /// Puts the transaction that was to be tried next after the others, for a wait with this timeout; does nothing if there is
+    /// none.
     pub fn wait_again(&mut self, timeout: Option<u64>)
-        ensures { (first : machine.Outstanding) (rest : List machine.Outstanding) → self.old.untried
+        ensures none { self.old.untried ≡ [] → self.new ≡ self.old }
+        ensures next { (first : machine.Outstanding) (rest : List machine.Outstanding) → self.old.untried
             ≡ first ∷ rest
             → self.new
             ≡ record {

@@ -1,4 +1,4 @@
-use Rattle.std.proofs.Common.{◌≡◌, ◌∙◌, ap, sym, Some, Ok}
+use Rattle.std.proofs.Common.{rules, ◌≡◌, ◌∙◌, ap, sym, Some, Ok}
 use Rattle.serde_json.specs.View.{view}
 use Rattle.ov_specs.specs.schema.Schema.{accepted}
 use Rattle.ov_schema.proofs.TextLemmas.{no_tree, some_tree}
@@ -11,7 +11,7 @@ returns-in-Err-2-clause-refused c = no_tree c.args.text.now (c.in-Err.ensures.er
 pub returns-then-has_real-clause-refused : goal.returns-then-has_real-clause-refused
 returns-then-has_real-clause-refused c =
     let tree = some_tree c.args.text.now (view c.in-Ok.value) c.in-Ok.ensures.ok.0 c.in-Ok.ensures.ok.1 in
-    (view c.in-Ok.value, tree, real_refused (view c.in-Ok.value) cc)
+    (λ same. cc, (view c.in-Ok.value, tree, real_refused (view c.in-Ok.value) cc))
 
 pub returns-in-Ok-schema_of_tree-clause-schema : goal.returns-in-Ok-schema_of_tree-clause-schema
 returns-in-Ok-schema_of_tree-clause-schema c =
@@ -23,4 +23,4 @@ returns-in-Ok-schema_of_tree-clause-schema c =
 pub returns-in-Err-schema_of_tree : goal.returns-in-Err-schema_of_tree
 returns-in-Err-schema_of_tree c =
     let tree = some_tree c.args.text.now (view c.in-Ok.value) c.in-Ok.ensures.ok.0 c.in-Ok.ensures.ok.1 in
-    record { schema = tt; refused = (c.new.result, tree ∙ ap Some (sym c.new.ensures), c.in-Err-schema_of_tree.ensures.refused) }
+    record { schema = tt; refused = (search rules, (c.new.result, tree ∙ ap Some (sym c.new.ensures), c.in-Err-schema_of_tree.ensures.refused)) }
