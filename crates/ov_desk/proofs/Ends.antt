@@ -9,10 +9,11 @@ use Rattle.ov_lanes.specs.declared.lane.Lane.{Lane}
 use Rattle.ov_workers.specs.declared.link.Link.{Link}
 use Rattle.ov_lanes.proofs.PlaceLaws.{some_before}
 use Rattle.ov_workers.specs.LinkStates.{LinkState}
-use Rattle.ov_desk.specs.declared.link.End.{End}
-use Rattle.ov_desk.specs.Ending.{CourseEnds, LinkEnds}
-use Rattle.ov_desk.specs.Ends.{EndsLane, EndsSeat, AllEnd}
-use Rattle.ov_desk.proofs.Endings.{link_ends}
+use Rattle.ov_hall.specs.declared.finish.End.{End}
+use Rattle.ov_hall.specs.Ending.{CourseEnds, LinkEnds}
+use Rattle.ov_hall.specs.Ends.{EndsLane, EndsSeat}
+use Rattle.ov_desk.specs.Serving.{AllEnd}
+use Rattle.ov_hall.proofs.Endings.{link_ends}
 
 -- the sessions at the places have consecutive serials; this is the first
 pub CountUp : ℕ → List (Option Lane) → Type 0

@@ -1,13 +1,2 @@
-mod Endings
 mod Ends
-mod Sides
-mod Pairs
-mod Seats
-mod Running
 mod Serving
-mod Halls
-mod Noting
-mod Gone
-mod Listed
-mod Giving
-mod Guests

@@ -1,9 +1,9 @@
 -- What is prepared for a number of links before they are handed over; for private clauses.
-use Rattle.std.specs.Prelude.{◌≡◌, ◌≤◌, ℕ, List, [], Option, None, true, length, slice_index_or, vec_capacity}
+use Rattle.std.specs.Prelude.{◌≡◌, ◌≤◌, ℕ, [], true, vec_capacity}
 use Rattle.std.specs.VecDeque.{deque_len, deque_capacity}
 use Rattle.ov_core.specs.Following.{CoreState}
 use Rattle.ov_lanes.specs.Opening.{AreSessions, OpensAll}
-use Rattle.ov_desk.specs.Seats.{AreStarted}
+use Rattle.ov_hall.specs.Seats.{AreStarted}
 use Rattle.ov_desk.specs.declared.links.Opened.{Opened}
 
 -- This many sessions were opened, their workers were started, and there is room for their lanes and for what remains of them.
@@ -15,7 +15,3 @@ pub record IsOpened {K D S W L : Type 0} (count : ℕ) (old new : CoreState K D)
   pub lanes : (o.lanes.items ≡ []) × (count ≤ vec_capacity o.lanes)
   pub workers : (o.workers.items ≡ []) × (count ≤ vec_capacity o.workers)
   pub ends : (o.ends.items ≡ []) × (count ≤ deque_capacity o.ends)
-
--- a list of this many places, in which there is nothing
-abbrev pub AreEmpty : {A : Type 0} → ℕ → List (Option A) → Type 0
-AreEmpty {A} count places = (length places ≡ count) × ((at : ℕ) → slice_index_or places at None ≡ None)

@@ -1,27 +1,30 @@
--- What serving makes of a core, and when it is refused.
-use Rattle.std.specs.Prelude.{◌≡◌, ◌≢◌, ℕ, ◌+◌, ◌<◌, List, [], ◌∷◌, ◌++◌, length, if◌then◌else◌, ◌==◌, Bool, true, false, Option, None}
-use Rattle.rtrb.specs.Ring.{received}
-use Rattle.ov_specs.specs.machine.Machine as machine
+-- What serving links makes of a machine, and when it is refused.
+use Rattle.std.specs.Prelude.{◌≡◌, ℕ, ◌+◌, ◌<◌, List, [], ◌∷◌, length, true, false, Result, IfOk, IfErr, OnErr}
 use Rattle.ov_specs.specs.machine.Machine.{is_open}
-use Rattle.ov_core.specs.Following.{CoreState, Timed}
+use Rattle.ov_core.specs.Following.{CoreState, Timed, with_clock}
 use Rattle.ov_lanes.specs.Courses.{Spares}
-use Rattle.ov_lanes.specs.Moments.{AreTimedBy}
 use Rattle.ov_lanes.specs.Since.{Since, course_of, course_before}
-use Rattle.ov_lanes.specs.Lanes.{IsAt, SameLane, StayAs, TakesOne, Serves}
 use Rattle.ov_lanes.specs.Places.{has_places}
 use Rattle.ov_lanes.specs.Opening.{ClosesAgain}
-use Rattle.ov_lanes.specs.declared.desk.Desk.{Desk}
-use Rattle.ov_lanes.specs.declared.lane.Lane.{Lane}
-use Rattle.ov_workers.specs.declared.link.Link.{Link}
 use Rattle.ov_lanes.specs.declared.fault.ServeFault.{ServeFault}
 use Rattle.ov_lanes.specs.declared.fault.ServeFault.TheVariants as fault
-use Rattle.ov_desk.specs.declared.hall.Hall.{Hall}
-use Rattle.ov_desk.specs.declared.link.End.{End}
-use Rattle.ov_desk.specs.Ends.{AllEnd}
+use Rattle.ov_workers.specs.declared.link.Link.{Link}
 use Rattle.ov_workers.specs.LinkStates.{LinkState}
-use Rattle.ov_desk.specs.Time.{TakesTime}
+use Rattle.ov_hall.specs.declared.finish.End.{End}
+use Rattle.ov_hall.specs.Ending.{LinkEnds}
+use Rattle.ov_hall.specs.Serving.{ToServe}
+use Rattle.ov_hall.specs.Time.{TakesTime}
+use Rattle.ov_desk.specs.declared.link.Served.{Served}
+use Rattle.ov_desk.specs.declared.link.Unserved.{Unserved}
 
--- ---- links
+-- Each link was served to its end, in order, with consecutive serials; this is the first.
+abbrev pub AllEnd : {K D S W : Type 0} {first core : CoreState K D} → (S → W → LinkState) → Since first core → ℕ → List (Link S W) → List (End S W) → Type 0
+AllEnd ends since serial [] [] = Unit {0}
+AllEnd ends since serial [] (e ∷ remains) = ⊥
+AllEnd ends since serial (k ∷ links) [] = ⊥
+AllEnd ends since serial (k ∷ links) (e ∷ remains) =
+    (e.serial ≡ serial) × LinkEnds since serial e.cause (ends k.reader k.writer) (ends e.reader e.writer)
+    × AllEnd ends since (serial + 1) links remains
 
 -- The links were served by this clock, and this is what the core made of it. As many sessions were opened as there are links.
 -- Every session that is open was open before, and sessions from before are not served.
@@ -40,58 +43,11 @@ RefusesLinks count old fault.TooMany new = (has_places count old.state ≡ false
 RefusesLinks count old fault.Threads new = (has_places count old.state ≡ true) × (new ≡ old)
 RefusesLinks count old fault.Memory new = (has_places count old.state ≡ true) × ClosesAgain old new
 
--- ---- a lobby
-
--- The core follows a history that continues the one it had followed, by this clock. Every session that is open was open
--- before, and sessions from before are not served.
-pub record ServesLobby {K D C : Type 0} (tells : C → ℕ → C → Type 0) (old new : Timed K D C) : Type 0 where
-  pub since : Since old.core new.core
-  pub closed : (n : ℕ) → is_open old.core.state n ≡ false → is_open new.core.state n ≡ false
-  pub earlier : (n : ℕ) → n < old.core.state.next → Spares (course_before old.core n) (course_of since n)
-  pub time : TakesTime tells old since.entries new
-
--- ---- on the way; for private clauses
-
--- Whatever was done since a core was `start`, the places of the desk fit it as before, and this is what was done meanwhile, at
--- these moments.
-pub record ServesBy {K D : Type 0} {start core : CoreState K D} {places : List (Option Lane)} (moments : List ℕ) (serves : Serves start core places) (new : Desk K D) : Type 0 where
-  pub after : Serves start new.core new.lanes.items
-  pub more : List machine.Entry
-  pub adds : after.since.entries ≡ serves.since.entries ++ more
-  pub timed : AreTimedBy moments core.state more new.core.state
-
--- how often a serial is among these
-abbrev pub times : ℕ → List ℕ → ℕ
-times serial [] = 0
-times serial (n ∷ notes) = (if n == serial then 1 else 0) + times serial notes
-
--- no two places have sessions of one serial
-abbrev pub AreApart : List (Option Lane) → Type 0
-AreApart places = (at other : ℕ) (l m : Lane) → IsAt places at l → IsAt places other m → l.session.serial ≡ m.session.serial → at ≡ other
-
--- the lane has the same rings and the same session, and as many items were taken from it as notes of its serial
-abbrev pub TakesFor : List ℕ → Lane → Lane → Type 0
-TakesFor notes l m = SameLane l m × (length (received m.inbound) ≡ length (received l.inbound) + times l.session.serial notes)
-
--- each place keeps its session, from whose ring as many items were taken as notes of its serial
-abbrev pub KeepsPlaces : List ℕ → List (Option Lane) → List (Option Lane) → Type 0
-KeepsPlaces notes ls ms = StayAs (TakesFor notes) ls ms
-
--- a hall that keeps its places and gets no more links stays so, with the same workers; no session was opened, and these notes
--- were taken
-abbrev pub KeepsHall : {K D S W L : Type 0} → List ℕ → Hall K D S W L → Hall K D S W L → Type 0
-KeepsHall notes old new =
-    old.keeps ≡ true → old.accepted ≡ None
-    → (new.keeps ≡ true) × (new.accepted ≡ None) × (new.workers ≡ old.workers)
-    × (new.desk.core.state.next ≡ old.desk.core.state.next)
-    × (AreApart old.desk.lanes.items → KeepsPlaces notes old.desk.lanes.items new.desk.lanes.items)
-
--- whether an item of the session was taken; if not, it has no place, and nothing is changed
-abbrev pub TakesNoted : ℕ → List (Option Lane) → Bool → List (Option Lane) → Type 0
-TakesNoted serial ls true ms = TakesOne serial ls ms
-TakesNoted serial ls false ms = (ms ≡ ls) × ((at : ℕ) (l : Lane) → IsAt ls at l → l.session.serial ≢ serial)
-
--- at most the bell of a lane's writer was rung
-abbrev pub IsTended : Lane → Lane → Type 0
-IsTended a b =
-    (b.inbound ≡ a.inbound) × (b.outbound ≡ a.outbound) × (b.session ≡ a.session) × (b.cause ≡ a.cause) × (b.ended ≡ a.ended) × (b.marked ≡ a.marked)
+-- The links were served, each to its end. Or they were refused: then they come back as they were, and the clock reported
+-- nothing. A keeper that is honest now was honest before.
+pub record AnswersLinks {K D S W C : Type 0} (ends : S → W → LinkState) (tells : C → ℕ → C → Type 0) (is_honest : K → Type 0) (old : ToServe K D C (List (Link S W))) (answer : Result (Served K D S W) (Unserved K D S W)) (clock : C) : Type 0 where
+  pub served : IfOk answer (λ s. ServesAll ends tells old.start (with_clock s.desk.core clock) old.what s.ends.items)
+  pub refused : IfErr answer (λ r. RefusesLinks (length old.what) old.start.core r.fault r.desk.core × (r.links.items ≡ old.what))
+  pub untouched : OnErr answer (clock ≡ old.start.clock)
+  pub honest : IfOk answer (λ s. is_honest s.desk.core.keeper → is_honest old.start.core.keeper)
+  pub honest_refused : IfErr answer (λ r. is_honest r.desk.core.keeper → is_honest old.start.core.keeper)

@@ -1,22 +1,9 @@
-use ov_core::Cause;
+use ov_hall::End;
 use ov_keeper::Keeper;
 use ov_lanes::{Desk, ServeFault};
 use ov_requests::Draws;
 use ov_workers::Link;
 use std::collections::VecDeque;
-
-/// What remains of a link after its session was closed and its workers have ended.
-#[derive(Drop)]
-pub struct End<S, W> {
-    /// The serial that the session had.
-    pub serial: u64,
-    /// Why the session was closed; or `WriteFault` if the writer failed, whatever the session was closed for.
-    pub cause: Cause,
-    /// The reader, after its last read.
-    pub reader: S,
-    /// The writer, after its last write.
-    pub writer: W,
-}
 
 /// What remains after all links have been served.
 #[derive(Drop)]

@@ -6,28 +6,25 @@ ghost use Rattle.ov_lanes.specs.Lanes.{AreNewLanes};
 ghost use Rattle.ov_lanes.specs.Opening.{AreSessions};
 ghost use Rattle.ov_lanes.specs.Pairs.{Threewise};
 ghost use Rattle.ov_lanes.specs.Places.{has_places};
-ghost use Rattle.ov_desk.specs.Answering.{AnswersLinks, to_serve};
+ghost use Rattle.ov_hall.specs.Serving.{to_serve};
+ghost use Rattle.ov_hall.specs.Seats.{AreStarted, IsSeatOf};
 ghost use Rattle.ov_workers.specs.LinkStates.{ends_of};
 ghost use Rattle.ov_desk.specs.Opening.{IsOpened};
-ghost use Rattle.ov_desk.specs.Seats.{AreStarted, IsSeatOf};
-ghost use Rattle.ov_desk.specs.Serving.{RefusesLinks, ServesAll};
+ghost use Rattle.ov_desk.specs.Serving.{AnswersLinks, RefusesLinks, ServesAll};
 
-use crate::begun::Begun;
-use crate::finish::finish_all;
-use crate::hall::Hall;
-use crate::link::{End, Served, Unserved};
-use crate::parts::Parts;
-use crate::run::run;
-use crate::start::{Started, dismiss_all, start_all};
+use crate::link::{Served, Unserved};
 use ov_core::{Core, Session};
 use ov_ends::{Clock, Sink, Source};
+use ov_hall::{
+    Begun, End, Hall, Parts, SHARES, Started, all_bells, dismiss_all, finish_all, run, start_all,
+};
 use ov_keeper::Keeper;
 use ov_lanes::{Desk, Lane, ServeFault, has_places, open_sessions, shows_nothing_opened};
 use ov_order::{Bell, Leave, Order, Taken};
 use ov_requests::Draws;
 use ov_threads::Workers;
 use ov_workers::{Common, Gate, Link};
-use std::alloc::{AllocError, Global};
+use std::alloc::Global;
 use std::collections::VecDeque;
 use std::marker::Brand;
 use std::rt::Clock as SystemClock;
@@ -35,9 +32,6 @@ use std::sync::Wait;
 use std::sync::ledger::{Blank, Ledger};
 use std::thread;
 use std::thread::{Scope, Threads};
-
-/// How many parts the ledger of notes has. Each worker that notes takes one, and one is left.
-pub(crate) const SHARES: u64 = u64::MAX;
 
 /// Sessions that were opened and the workers that were started for them, with room for what becomes of them.
 #[derive(Drop)]
@@ -88,7 +82,7 @@ where
     let mut parts = parts;
     let started = start_all(common, scope, bells, &mut parts, first)?;
     let Some(sessions) = open_sessions(core, common.alloc, bells.len()) else {
-        dismiss_all(common, started);
+        let _said = dismiss_all(common, started);
         return Err(ServeFault::Memory);
     };
     Ok(Opened {
@@ -240,17 +234,6 @@ where
         },
     );
     served
-}
-
-/// A bell for each of this many writers.
-pub(crate) fn all_bells(alloc: Global, count: usize) -> Result<Vec<Bell>, AllocError>
-    ensures { IfOk result (λ bells. vec_len bells ≡ count) }
-{
-    let mut bells = Vec::with_capacity(alloc, count)?;
-    while bells.len() < count {
-        bells.push_reserved(Bell::new());
-    }
-    Ok(bells)
 }
 
 /// Serves the links with the ledger that a type stands for.

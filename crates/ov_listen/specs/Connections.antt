@@ -6,8 +6,8 @@ use Rattle.std.specs.declared.net.tcp.TcpStream.{TcpStream}
 use Rattle.ov_ends.specs.States.{source_state, sink_state}
 use Rattle.ov_ends.specs.declared.watched.Watched.{Watched}
 use Rattle.ov_lanes.specs.declared.fault.ServeFault.{ServeFault}
-use Rattle.ov_desk.specs.declared.link.End.{End}
-use Rattle.ov_desk.specs.Guests.{ServesGuests}
+use Rattle.ov_hall.specs.declared.finish.End.{End}
+use Rattle.ov_lobby.specs.Serving.{ServesGuests}
 use Rattle.ov_workers.specs.LinkStates.{LinkState}
 use Rattle.ov_desk.specs.Serving.{RefusesLinks, ServesAll}
 use Rattle.ov_core.specs.Following.{Timed}

@@ -1,8 +1,8 @@
 use crate::holding::{HoldingGate, Mark};
 use crate::told::push;
 use ov_core::Cause;
-use ov_desk::End;
 use ov_ends::Watched;
+use ov_hall::End;
 use ov_workers::Link;
 use std::alloc::{AllocError, Global};
 use std::collections::VecDeque;

@@ -1,5 +1,5 @@
 //! Tests of what crosses threads, and of what comes over sockets: the order of notes, the rings between workers and the desk,
-//! the workers, the desk with its clients, and a listener with sessions and a lobby over the loopback interface.
+//! the workers, the hall, the desk with its clients, and a listener with sessions and a lobby over the loopback interface.
 #![tactic(auto)]
 
 #[cfg(test)]
@@ -18,6 +18,8 @@ mod crowds;
 mod desks;
 #[cfg(test)]
 mod gates;
+#[cfg(test)]
+mod halls;
 #[cfg(test)]
 mod holding;
 #[cfg(test)]

@@ -3,10 +3,10 @@
 use crate::clocks::RisingClock;
 use crate::machines::net_desk;
 use crate::told::{push, tells};
-use ov_desk::serve_lobby;
 use ov_ends::Watched;
 use ov_keeper::Keeper;
 use ov_lanes::Desk;
+use ov_lobby::serve_lobby;
 use ov_requests::Draws;
 use ov_workers::{FreeGate, Link, Listen};
 use std::alloc::{AllocError, Global};

@@ -5,8 +5,8 @@ use crate::machines::net_core;
 use crate::talks::{client_at, talk};
 use ov_base::Text;
 use ov_core::Core;
-use ov_desk::End;
 use ov_ends::{Clock as MomentClock, Sink, Source};
+use ov_hall::End;
 use ov_keeper::Keeper;
 use ov_listen::{
     DatabaseEnded, Endpoint, MonotonicClock, Pipes, Service, pipes_over, serve_at,

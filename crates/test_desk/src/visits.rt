@@ -2,11 +2,11 @@
 
 use crate::machines::net_desk;
 use crate::talks::{client_at, meets_end, talk};
-use ov_desk::serve_lobby;
 use ov_ends::Watched;
 use ov_keeper::Keeper;
 use ov_lanes::Desk;
 use ov_listen::MonotonicClock;
+use ov_lobby::serve_lobby;
 use ov_requests::Draws;
 use ov_sockets::{ClientReader, ClientWriter, listen};
 use ov_workers::{FreeGate, Link, Listen};

@@ -3,9 +3,10 @@
 use crate::serve::{StillClock, reader_of, told_of, writer_of};
 use ov_base::Text;
 use ov_core::{Cause, Core};
-use ov_desk::{End, Served, serve_links};
+use ov_desk::{Served, serve_links};
 use ov_ends::Watched;
 use ov_files::{Store, reopen_after_crash};
+use ov_hall::End;
 use ov_keeper::Keeper;
 use ov_lanes::Desk;
 use ov_workers::{FreeGate, Link};

@@ -1,7 +1,7 @@
 use Rattle.std.proofs.Common.{rules, ◌≡◌, ℕ, true, length, vec_len, subst, ◌∙◌}
 use Rattle.ov_lanes.specs.Opening.{OpensAll}
 use Rattle.ov_desk.proofs.Serving.{first_serial}
-use Rattle.ov_desk.proofs.Seats.{started_from}
+use Rattle.ov_hall.proofs.Seats.{started_from}
 use Rattle.ov_desk.proofs.links.open_all.Goals as goal
 
 pub returns-clause-opened : goal.returns-clause-opened

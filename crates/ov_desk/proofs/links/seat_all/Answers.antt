@@ -2,8 +2,8 @@ use Rattle.std.proofs.Common.{rules, ◌≡◌, ◌+◌, ◌++◌, ◌∷◌, []
 use Rattle.ov_lanes.specs.Opening.{AreSessions}
 use Rattle.ov_lanes.specs.Lanes.{AreNewLanes, IsNewLane}
 use Rattle.ov_lanes.specs.Pairs.{Threewise}
-use Rattle.ov_desk.specs.Seats.{AreStarted, IsSeatOf}
-use Rattle.ov_desk.proofs.Seats.{first_started, first_session, started_works, started_new, seat_more}
+use Rattle.ov_hall.specs.Seats.{AreStarted, IsSeatOf}
+use Rattle.ov_hall.proofs.Seats.{first_started, first_session, started_works, started_new, seat_more}
 use Rattle.ov_desk.proofs.links.seat_all.Goals as goal
 
 pub hand-requires-clause-unhanded : goal.hand-requires-clause-unhanded

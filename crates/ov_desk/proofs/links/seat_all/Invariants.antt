@@ -5,7 +5,7 @@ use Rattle.ov_workers.specs.declared.link.Link.{Link}
 use Rattle.ov_lanes.specs.Lanes.{AreNewLanes}
 use Rattle.ov_lanes.specs.Opening.{AreSessions}
 use Rattle.ov_lanes.specs.Pairs.{Threewise}
-use Rattle.ov_desk.specs.Seats.{AreStarted, IsSeatOf}
+use Rattle.ov_hall.specs.Seats.{AreStarted, IsSeatOf}
 use Rattle.ov_desk.proofs.links.seat_all.Given as goal
 
 abbrev pub invariant-loop-link : goal.invariant-loop-link

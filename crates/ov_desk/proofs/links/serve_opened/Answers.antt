@@ -6,11 +6,11 @@ use Rattle.ov_lanes.specs.Lanes.{SameLane, StayAs}
 use Rattle.ov_lanes.specs.Opening.{OpensAll}
 use Rattle.ov_lanes.specs.Pairs.{Threewise}
 use Rattle.ov_lanes.proofs.PlaceLaws.{serves_opened}
-use Rattle.ov_desk.specs.Seats.{IsSeatOf}
-use Rattle.ov_desk.proofs.Pairs.{threes_counts}
+use Rattle.ov_hall.specs.Seats.{IsSeatOf}
+use Rattle.ov_hall.proofs.Pairs.{threes_counts}
 use Rattle.ov_desk.proofs.Ends.{count_new, count_stays, all_end}
-use Rattle.ov_desk.proofs.Running.{kept_same, shut_over, time_of}
-use Rattle.ov_desk.proofs.Seats.{seats_of, seats_later}
+use Rattle.ov_hall.proofs.Running.{kept_same, shut_over, time_of}
+use Rattle.ov_hall.proofs.Seats.{seats_of, seats_later}
 use Rattle.ov_desk.proofs.links.serve_opened.Goals as goal
 
 pub run-requires-clause-seats : goal.run-requires-clause-seats

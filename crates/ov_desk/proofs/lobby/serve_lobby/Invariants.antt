@@ -1,4 +1,0 @@
-use Rattle.ov_desk.proofs.lobby.serve_lobby.Given as goal
-
-abbrev pub ghosts-serve_as : goal.ghosts-serve_as
-ghosts-serve_as g a = record { name = a.blank.name; parts = a.blank.parts }

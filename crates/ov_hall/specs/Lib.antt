@@ -1,0 +1,9 @@
+pub mod Lists
+pub mod Time
+pub mod Outcome
+pub mod Ending
+pub mod Ends
+pub mod Seats
+pub mod Serving
+pub mod Guests
+pub mod Admitting

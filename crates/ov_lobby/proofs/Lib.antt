@@ -1,0 +1,2 @@
+mod Guests
+mod Places
