@@ -7,21 +7,21 @@ use test_basics::{Scripted, agrees};
 
 /// Arguments after the program's name, each followed by a comma, and the settings: the schema, the database, the address, the
 /// number of sessions, and whether `--stdio` is given.
-const TAKEN: &str = " -> -|-|-|-|false
---stdio, -> -|-|-|-|true
---schema,a.json, -> a.json|-|-|-|false
---schema=a.json,--stdio, -> a.json|-|-|-|true
---db,net.db,--schema,a b, -> a b|net.db|-|-|false
---db=net.db, -> -|net.db|-|-|false
---db=--stdio, -> -|--stdio|-|-|false
---schema=--db=x, -> --db=x|-|-|-|false
---db,-,--, -> -|-|-|-|false
---listen,127.0.0.1:0, -> -|-|127.0.0.1:0|-|false
---sessions=64,--listen,localhost:6640,--db,net.db, -> -|net.db|localhost:6640|64|false
---listen=[::1]:6640,--sessions,1, -> -|-|[::1]:6640|1|false
---listen=--stdio, -> -|-|--stdio|-|false
---listen,a,--sessions,008, -> -|-|a|8|false
---listen,a,--sessions,000000000000000000000000000010, -> -|-|a|10|false";
+const TAKEN: &str = " -> none|none|none|none|false
+--stdio, -> none|none|none|none|true
+--schema,a.json, -> a.json|none|none|none|false
+--schema=a.json,--stdio, -> a.json|none|none|none|true
+--db,net.db,--schema,a b, -> a b|net.db|none|none|false
+--db=net.db, -> none|net.db|none|none|false
+--db=--stdio, -> none|--stdio|none|none|false
+--schema=--db=x, -> --db=x|none|none|none|false
+--db,-,--, -> none|-|none|none|false
+--listen,127.0.0.1:0, -> none|none|127.0.0.1:0|none|false
+--sessions=64,--listen,localhost:6640,--db,net.db, -> none|net.db|localhost:6640|64|false
+--listen=[::1]:6640,--sessions,1, -> none|none|[::1]:6640|1|false
+--listen=--stdio, -> none|none|--stdio|none|false
+--listen,a,--sessions,008, -> none|none|a|8|false
+--listen,a,--sessions,000000000000000000000000000010, -> none|none|a|10|false";
 
 /// Arguments that are refused.
 const REFUSED: &str = "--help, -> refused
@@ -73,19 +73,19 @@ fn words_of<'a>(alloc: Global, case: &'a str) -> Result<Vec<&'a str>, AllocError
     Ok(words)
 }
 
-/// The name of a file or an address, or `-` for none.
+/// The name of a file or an address, or `none`.
 fn name_of(named: &Option<Text>) -> &str {
     match named {
         Some(name) => name.as_str(),
-        None => "-",
+        None => "none",
     }
 }
 
-/// A number of sessions, or `-` for none.
+/// A number of sessions, or `none`.
 fn number_of(alloc: Global, sessions: Option<u64>) -> Result<String, AllocError> {
     match sessions {
         Some(count) => format!(in alloc; "{count}"),
-        None => String::from_str(alloc, "-"),
+        None => String::from_str(alloc, "none"),
     }
 }
 
