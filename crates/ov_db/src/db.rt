@@ -272,7 +272,7 @@ impl<K: Keeper + Drop> Db<K> {
         self.resident.rows.row(table, id)
     }
 
-    /// The rows of the table of this name, if it ever had one. Allocates nothing.
+    /// The rows of the table of this name; `None` only if it has none. Allocates nothing.
     pub fn rows_of(&self, table: &str) -> Option<&TableRows>
         ensures { rows_in table.now (option_copied result)
             ≡ filter (λ r. bytes_eq r.0.0 table.now) (entries self.now.committed) }

@@ -9,8 +9,8 @@ use std::alloc::Global;
 use std::collections::VecDeque;
 use std::marker::Model;
 
-/// Frames that are ready to be sent, in order, each with its session. Each has a place in its session's queue, so that they
-/// can be sent without allocating.
+/// Frames that are ready to be sent, in order, each with its session. A call that sends them asks that each session's queue has
+/// a place for each of its frames, and allocates nothing.
 #[derive(Drop)]
 pub struct Prepared {
     frames: VecDeque<(u64, Bytes)>,

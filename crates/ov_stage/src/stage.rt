@@ -264,9 +264,11 @@ impl<'a> Stage<'a> {
         is_among(names, "_uuid") || self.has_any_index(table, names)
     }
 
-    /// What the operations have changed. It is empty exactly if the rows are as before them.
+    /// What the operations have changed: each of these changes differs from what was there. It is empty exactly if the rows
+    /// are as before them.
     pub fn into_delta(self) -> Delta
         ensures made { applied result self.entry.before ≡ self.entry.now }
+        ensures differs { Differs result self.entry.before }
         ensures least { (len result == 0) ≡ same_database self.entry.before self.entry.now }
     {
         let Stage {
