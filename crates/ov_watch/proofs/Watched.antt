@@ -1,16 +1,17 @@
 -- The monitors of the sessions, by what the map has at their serials.
-use Rattle.std.proofs.Common.{◌≡◌, ℕ, List, [], ◌∷◌, ◌++◌, Bool, true, false, cond, eqb, Option, Result, Ok, Err, refl, sym, ap, subst, ◌∙◌}
+use Rattle.std.proofs.Common.{◌≡◌, ℕ, List, [], ◌∷◌, ◌++◌, Bool, true, false, cond, eqb, Option, Some, Result, Ok, Err, refl, sym, ap, subst, ◌∙◌}
 use Rattle.std.specs.Prelude.{unwrap_or, OnErr}
 use Rattle.std.specs.BTreeMap.{BTreeMap, is_at, get}
 use Rattle.std.specs.Ordering.{nat_cmp}
-use Rattle.std.proofs.lemmas.Bool.{eqb-true}
+use Rattle.std.specs.Map.{set_value}
+use Rattle.std.proofs.lemmas.Map.Steps.{set_value_same}
 use Rattle.ov_specs.specs.monitors.Monitors.{Monitor}
 use Rattle.ov_specs.specs.monitors.Requests.{MonitorFault}
 use Rattle.ov_watch.specs.declared.fault.WatchFault.{WatchFault}
 use Rattle.ov_watch.specs.declared.fault.WatchFault.TheVariants as fault
 use Rattle.ov_watch.specs.Views.{IsWatchResult}
 use Rattle.ov_sessions.proofs.Keying.{same_serial}
-use Rattle.ov_watch.specs.Watching.{Watching, monitors_at, WatchesWith, SameWatching, WatchesAsGiven}
+use Rattle.ov_watch.specs.Watching.{Watching, monitors_at, WatchesWith, WatchesAsGiven}
 
 abbrev pub Watched : Type 0
 Watched = BTreeMap ℕ (List Monitor)
@@ -27,13 +28,10 @@ watched_after m n s w h other = ap monitors_in (h other ∙ ap (λ b. cond b w (
     by_test true = refl
     by_test false = refl
 
--- the session has the monitors that it had
-pub same_watched : (s : ℕ) (monitors : List Monitor) (old new : Watching) → monitors ≡ monitors_at s old → WatchesWith s monitors old new → SameWatching old new
-same_watched s monitors old new same h other = h other ∙ here (eqb other s) refl
-  where
-    here : (b : Bool) → eqb other s ≡ b → cond b monitors (monitors_at other old) ≡ monitors_at other old
-    here true e = same ∙ ap (λ n. monitors_at n old) (sym (eqb-true other s e))
-    here false e = refl
+-- if its monitors are as they were, the map is
+pub kept_watched : (s : ℕ) (result : Result (Unit {0}) WatchFault) (m n : Watched) (before after : List Monitor) → Some before ≡ get nat_cmp m s → n.entries ≡ set_value (is_at (nat_cmp s)) m.entries after → OnErr result (after ≡ before) → OnErr result (n.entries ≡ m.entries)
+kept_watched s (Ok u) m n before after found set same = tt
+kept_watched s (Err fault) m n before after found set same = set ∙ (ap (λ w. set_value (is_at (nat_cmp s)) m.entries w) same ∙ set_value_same (is_at (nat_cmp s)) m.entries before (sym found))
 
 -- a list with one more at its end is not empty
 pub not_empty : (front : List Monitor) (m : Monitor) → [] ≡ front ++ m ∷ [] → ⊥
@@ -52,10 +50,10 @@ its_fault seen given fault.Memory h = h
 
 -- the session has what its own monitors became
 pub as_given : (s : ℕ) (given : List Monitor → Result (List Monitor) MonitorFault) (result : Result (Unit {0}) WatchFault) (before after : List Monitor) (old new : Watching) → before ≡ monitors_at s old
-    → IsWatchResult (λ _. after) (given before) result → OnErr result (after ≡ before) → WatchesWith s after old new → WatchesAsGiven s (given (monitors_at s old)) old result new
-as_given s given (Ok u) before after old new is h same with =
+    → IsWatchResult (λ _. after) (given before) result → OnErr result (new ≡ old) → WatchesWith s after old new → WatchesAsGiven s (given (monitors_at s old)) old result new
+as_given s given (Ok u) before after old new is h kept with =
     let P : List Monitor → Type 0 = λ b. given b ≡ Ok after in
     (after, subst P is h, with)
-as_given s given (Err fault) before after old new is h same with =
+as_given s given (Err fault) before after old new is h kept with =
     let P : List Monitor → Type 0 = λ b. IsWatchResult {A = Unit {0}} (λ _. after) (given b) (Err fault) in
-    (its_fault (λ _. after) (given (monitors_at s old)) fault (subst P is h), same_watched s after old new (same ∙ is) with)
+    (its_fault (λ _. after) (given (monitors_at s old)) fault (subst P is h), kept)

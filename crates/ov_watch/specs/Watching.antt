@@ -27,12 +27,11 @@ WatchesWith session monitors old new =
 abbrev pub SameWatching : Watching → Watching → Type 0
 SameWatching old new = (other : ℕ) → monitors_at other new ≡ monitors_at other old
 
--- The session has the monitors that are given. If a fault is given instead, or an allocation failed, each session has the
--- same monitors as before.
+-- The session has the monitors that are given. If a fault is given instead, or an allocation failed, nothing is changed.
 abbrev pub WatchesAsGiven : ℕ → Result (List Monitor) MonitorFault → Watching → Result (Unit {0}) WatchFault → Watching → Type 0
 WatchesAsGiven session given old (Ok _) new =
     (monitors : List Monitor) × (given ≡ Ok monitors) × WatchesWith session monitors old new
-WatchesAsGiven session given old (Err fault) new = IsWatchResult {A = Unit {0}} (λ _. []) given (Err fault) × SameWatching old new
+WatchesAsGiven session given old (Err fault) new = IsWatchResult {A = Unit {0}} (λ _. []) given (Err fault) × (new ≡ old)
 
 -- how a model stores the monitors of the sessions
 abbrev pub watching_code : Coded Watching

@@ -85,10 +85,10 @@ impl Watchers {
         ensures { WatchesAsGiven session (spec.canceled (monitors_at session self.old) id.now)
             self.old result self.new }
     {
-        match self.monitors.get_mut(&session) {
-            Some(monitors) => monitors.cancel(alloc, id),
-            None => Err(WatchFault::Unknown),
+        if let Some(monitors) = self.monitors.get_mut(&session) {
+            return monitors.cancel(alloc, id);
         }
+        Err(WatchFault::Unknown)
     }
 
     /// What the session's monitor of this name reports initially, the result of `monitor`; `None` if there is no such monitor

@@ -1,6 +1,7 @@
-use Rattle.std.proofs.Common.{[], refl}
+use Rattle.std.proofs.Common.{[], refl, ap}
 use Rattle.serde_json.specs.Data.{object, no_members}
 use Rattle.ov_specs.specs.machine.Machine.{refused}
+use Rattle.ov_watch.specs.Watching.{monitors_at}
 use Rattle.ov_core.proofs.Refusing.{monitor_refused}
 use Rattle.ov_core.proofs.Workings.{SameLive, watch_works, works_over}
 use Rattle.ov_core.proofs.live.Live.cancel_monitor.Goals as goal
@@ -15,7 +16,7 @@ pub returns-in_default : goal.returns-in_default
 returns-in_default g c =
     let old = c.args.self.now in
     let mid = record old { watchers = c.cancel.new.self } in
-    let same : SameLive old mid = record { same = refl; watching = c.in-Err.ensures.1; queues = refl; frames = λ other. refl } in
+    let same : SameLive old mid = record { same = refl; watching = λ other. ap (λ w. monitors_at other w) c.in-Err.ensures.1; queues = refl; frames = λ other. refl } in
     let (fault, given, text) = monitor_refused c.in-Err.fault _ c.text.result.now c.in_default.not-Memory c.in-Err.ensures.0 c.text.ensures in
     record {
       works = λ moment. rw (given, ← text) (works_over moment c.args.session (refused c.args.id c.text.result.now) [] old mid c.refuse.result c.refuse.new.self same (c.refuse.ensures.works moment));

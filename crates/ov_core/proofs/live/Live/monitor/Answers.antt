@@ -25,7 +25,7 @@ pub returns-in_default-fault : goal.returns-in_default-fault
 returns-in_default-fault g c =
     let old = c.args.self.now in
     let mid = record old { watchers = c.add.new.self } in
-    let same : SameLive old mid = record { same = refl; watching = c.in-Err.ensures.1; queues = refl; frames = λ other. refl } in
+    let same : SameLive old mid = record { same = refl; watching = λ other. ap (λ w. monitors_at other w) c.in-Err.ensures.1; queues = refl; frames = λ other. refl } in
     let same_given : added c.schema-schema.result.now (monitors_at c.args.session old.watchers) c.in-Ok.copy (view c.as_value.result.now) ≡ added old.database.schema (monitors_at c.args.session old.watchers) c.args.name.now c.args.requests.now =
     rw (c.schema-schema.ensures, c.in-Ok.ensures, c.as_value.ensures.same) refl in
     let (fault, given, text) = monitor_refused c.in-Err.fault _ c.text.result.now c.in_default-fault.not-Memory c.in-Err.ensures.0 c.text.ensures in

@@ -1,16 +1,18 @@
 use Rattle.std.proofs.Common.{[], Some, Ok, sym, ap, ◌∙◌, rules}
 use Rattle.serde_json.specs.View.{view}
 use Rattle.ov_specs.specs.monitors.Monitors.{added}
-use Rattle.ov_watch.proofs.Watched.{monitors_in, watched_after, as_given}
+use Rattle.ov_watch.proofs.Watched.{monitors_in, watched_after, kept_watched, as_given}
 use Rattle.ov_watch.proofs.watchers.Watchers.add.Goals as goal
 
 pub returns-in-Some : goal.returns-in-Some
 returns-in-Some c =
     let m = c.self.inside.monitors in
     let n = c.get_mut.follows.lender c.add.new.self in
+    let written = c.get_mut.follows.holds c.add.new.self in
     rw (← c.self.view_is) (as_given c.args.session (λ monitors. added c.args.schema.now monitors c.args.id (view c.args.requests.now)) c.add.result c.in-Some.monitors.now c.add.new.self m.entries n.entries
-    (ap monitors_in c.in-Some.ensures.value) c.add.ensures.added c.add.ensures.err
-    (watched_after m n c.args.session (Some c.add.new.self) ((c.get_mut.follows.holds c.add.new.self).3 (search rules)).0))
+    (ap monitors_in c.in-Some.ensures.value) c.add.ensures.added
+    (kept_watched c.args.session c.add.result m n c.in-Some.monitors.now c.add.new.self c.in-Some.ensures.value written.0 c.add.ensures.err)
+    (watched_after m n c.args.session (Some c.add.new.self) (written.3 (search rules)).0))
 
 pub returns-in-Ok : goal.returns-in-Ok
 returns-in-Ok c =
