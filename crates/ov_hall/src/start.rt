@@ -62,8 +62,11 @@ where
     }
 }
 
-/// Tells the waiting workers that none may begin, and ends them.
-pub fn dismiss_all<R, L, G, S, W>(common: Common<'_, R, L, G>, started: VecDeque<Started<S, W, L>>)
+/// Tells the waiting workers that none may begin, joins them, and returns what was said.
+pub fn dismiss_all<R, L, G, S, W>(
+    common: Common<'_, R, L, G>,
+    started: VecDeque<Started<S, W, L>>,
+) -> Leave<L>
 where
     R: Threads + Wait,
     L: Ledger,
