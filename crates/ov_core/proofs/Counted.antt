@@ -3,11 +3,11 @@ use Rattle.std.proofs.Common.{◌≡◌, ℕ, ◌+◌, ◌≤◌, List, [], ◌�
 use Rattle.ov_specs.specs.machine.Machine.{State, Entry, Sent, Stepped, step}
 use Rattle.ov_laws.specs.Attempts.{most_attempts, count_of}
 use Rattle.ov_laws.specs.Databases.{at_moment_of}
-use Rattle.ov_core.specs.Counting.{CountsTries, CountsAll, most_in}
-use Rattle.ov_core.specs.Asking.{IsSealedForCause}
+use Rattle.ov_live.specs.Counting.{CountsTries, CountsAll, most_in}
+use Rattle.ov_live.specs.Asking.{IsSealedForCause}
 use Rattle.ov_core.specs.Following.{CoreState, CountsWork, keeper_of}
-use Rattle.ov_core.proofs.Asking.{sealed_same, sealed_then}
-use Rattle.ov_core.proofs.Trying.{counts_few}
+use Rattle.ov_live.proofs.Asking.{sealed_same, sealed_then}
+use Rattle.ov_live.proofs.Trying.{counts_few}
 
 -- entries after entries
 all_then : (s : State) (es fs : List Entry) (a : ℕ) (m : State) (b : ℕ) (t : State) (c : ℕ) → CountsAll s es a m b → CountsAll m fs b t c → CountsAll s (es ++ fs) a t c

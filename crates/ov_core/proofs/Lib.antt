@@ -1,15 +1,4 @@
-pub mod Watching
-pub mod Leaves
-pub mod Refusing
 pub mod Steps
-pub mod Preparings
-pub mod Prepared
-pub mod Workings
-pub mod Asking
-pub mod Counting
-pub mod Trying
 pub mod Counted
-pub mod Settlings
-pub mod Takings
-pub mod FewWaiting
 pub mod Opening
+pub mod Leaving

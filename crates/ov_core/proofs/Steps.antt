@@ -22,22 +22,22 @@ use Rattle.ov_requests.specs.Drawing.{DrawsFrom}
 use Rattle.ov_history.specs.declared.event.Attempt.{Attempt}
 use Rattle.ov_history.specs.declared.event.Entry.{Entry}
 use Rattle.ov_history.specs.declared.event.Stepped.TheVariants as answer
-use Rattle.ov_core.specs.declared.live.Live.{Live}
+use Rattle.ov_live.specs.declared.live.Live.{Live}
 use Rattle.ov_history.specs.Entries.{attempt_view, entry_view}
-use Rattle.ov_core.specs.Sessions.{ClosesSession, OpensLive}
-use Rattle.ov_core.specs.States.{machine_state}
-use Rattle.ov_core.proofs.Trying.{counts_few}
-use Rattle.ov_core.specs.Settling.{ComesTo, choice_of}
-use Rattle.ov_core.specs.Asking.{AsksKeeper}
+use Rattle.ov_live.specs.Sessions.{ClosesSession, OpensLive}
+use Rattle.ov_live.specs.States.{machine_state}
+use Rattle.ov_live.proofs.Trying.{counts_few}
+use Rattle.ov_live.specs.Settling.{ComesTo, choice_of}
+use Rattle.ov_live.specs.Asking.{AsksKeeper}
 use Rattle.ov_core.specs.Following.{CoreState, CountsWork, EntersEntry, Follows, keeper_of, none_given}
 use Rattle.ov_history.specs.History.{newest, HasHistory}
 use Rattle.ov_core.specs.Stepping.{closing, Closes, IsEntered}
 use Rattle.ov_outbox.proofs.Answered.{frames_to-append}
 use Rattle.ov_history.proofs.Histories.{entered_after, keeps_more, has_more}
-use Rattle.ov_core.proofs.Asking.{asks_nothing}
+use Rattle.ov_live.proofs.Asking.{asks_nothing}
 use Rattle.ov_core.proofs.Counted.{counts_one, counts_unasked}
-use Rattle.ov_core.proofs.Settlings.{closed_state}
-use Rattle.ov_core.proofs.Watching.{any-serial, left-open, sessions-opened}
+use Rattle.ov_live.proofs.Settlings.{closed_state}
+use Rattle.ov_live.proofs.Watching.{any-serial, left-open, sessions-opened}
 
 -- ---- what a step of the code leaves
 

@@ -9,8 +9,8 @@ use Rattle.ov_history.specs.declared.event.Entry.{Entry}
 use Rattle.ov_sessions.specs.declared.session.Session.{Session}
 use Rattle.ov_history.specs.History.{Keeps, KeepsNewest}
 use Rattle.ov_outbox.specs.Frames.{WaitingFrames, waiting_for, PostsSent}
-use Rattle.ov_core.specs.Asking.{KeeperState, IsSealedForCause}
-use Rattle.ov_core.specs.Counting.{CountsAll, most_in}
+use Rattle.ov_live.specs.Asking.{KeeperState, IsSealedForCause}
+use Rattle.ov_live.specs.Counting.{CountsAll, most_in}
 
 -- what contracts see of a core: its state, the open sessions with their keys in order of opening, the entries that it keeps,
 -- the waiting frames, its keeper, how often the keeper's device has failed, its source of draws, and how many attempts of

@@ -1,10 +1,3 @@
-pub mod States
-pub mod Sessions
-pub mod Counting
-pub mod Asking
-pub mod Handling
-pub mod Settling
-pub mod Preparing
 pub mod Following
 pub mod Stepping
 pub mod Passing

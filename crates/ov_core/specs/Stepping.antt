@@ -14,11 +14,11 @@ use Rattle.ov_history.specs.declared.event.Stepped.{Stepped}
 use Rattle.ov_history.specs.declared.event.Stepped.TheVariants as answer
 use Rattle.ov_sessions.specs.Sessions.{most_sessions, has_no_room, IsFreeKey}
 use Rattle.ov_sessions.specs.declared.session.Session.{Session}
-use Rattle.ov_core.specs.States.{still_open}
-use Rattle.ov_core.specs.Asking.{AsksKeeper, HasSameKeeper}
+use Rattle.ov_live.specs.States.{still_open}
+use Rattle.ov_live.specs.Asking.{AsksKeeper, HasSameKeeper}
 use Rattle.ov_core.specs.Following.{CoreState, EntersEntry, keeper_of}
 use Rattle.ov_outbox.specs.Frames.{waiting_for, has_queue}
-use Rattle.ov_core.specs.Counting.{CountsTries}
+use Rattle.ov_live.specs.Counting.{CountsTries}
 use Rattle.ov_laws.specs.Attempts.{most_attempts}
 use Rattle.ov_laws.specs.Databases.{at_moment_of}
 

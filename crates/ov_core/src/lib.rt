@@ -2,18 +2,8 @@
 //! clock or thread: moments and identifiers come in as values.
 #![tactic(auto)]
 
-mod attempt;
-mod frames;
-mod handle;
-mod live;
-mod lock;
 mod machine;
 mod open;
-mod owner;
-mod replying;
-mod send;
-mod settle;
-mod watch;
 
 pub use machine::Core;
 pub use ov_history::{Attempt, Cause, Choice, Entry, Event, Outcome, StepFault, Stepped};

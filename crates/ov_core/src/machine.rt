@@ -18,12 +18,12 @@ ghost use Rattle.ov_core.specs.Passing.{is_due, TicksIf};
 ghost use Rattle.ov_core.specs.Leaving.{LeavesItsOwn};
 ghost use Rattle.ov_db.specs.Committing.{AreKept, MayFindRows};
 
-use crate::live::Live;
 use ov_base::Bytes;
 use ov_history::{
     Cause, Entry, Event, History, StepFault, Stepped, entry_with_choice, entry_without_choice,
 };
 use ov_keeper::Keeper;
+use ov_live::{Live, moment_of};
 use ov_requests::Draws;
 use ov_rpc::Received;
 use ov_sessions::Session;
@@ -50,7 +50,7 @@ impl<K: Keeper, D> Model for Core<K, D> {
     ghost use Rattle.ov_rows.specs.Resident.{database_code};
     ghost use Rattle.ov_core.specs.Following.{CoreState};
     ghost use Rattle.ov_history.specs.History.{HasHistory};
-    ghost use Rattle.ov_core.specs.States.{machine_state};
+    ghost use Rattle.ov_live.specs.States.{machine_state};
 
     ghost Value = { CoreState K D };
 
@@ -118,7 +118,7 @@ impl<K: Keeper + Drop, D: Draws + Drop> Core<K, D> {
         ensures keeps { StepAppends (session_in event) self.old result self.new }
         ensures honest { K.is_honest self.new.keeper → K.is_honest self.old.keeper }
     {
-        let moment = moment.max(self.moment);
+        let moment = moment_of(moment, self.moment);
         match event {
             Event::Open => match self.open_at(moment) {
                 Ok(opened) => Stepped::Opened(opened),

@@ -3,11 +3,11 @@
 ghost use Rattle.std.specs.Prelude.{◌≡◌, [], IfOk, IfErr, None};
 ghost use Rattle.ov_core.specs.Opening.{FindsAnother, OpensCore, OpensDatabase, RefusesCore};
 
-use crate::live::Live;
 use crate::machine::Core;
 use ov_db::{Db, OpenFault, RefusedOpen};
 use ov_history::History;
 use ov_keeper::{KeepFault, Keeper};
+use ov_live::Live;
 use ov_requests::{Draws, Waiting};
 use ov_schema::Schema;
 use ov_sessions::Sessions;

@@ -14,7 +14,7 @@ use Rattle.ov_specs.proofs.laws.Queueing.{InOrder, run_in_order, step_sends_open
 use Rattle.ov_specs.proofs.laws.Turns.{stepped}
 use Rattle.ov_history.specs.History.{HasHistory}
 use Rattle.ov_history.specs.declared.event.Entry.{Entry as Kept}
-use Rattle.ov_core.proofs.Leaves.{leaving_silent}
+use Rattle.ov_specs.proofs.laws.Leaves.{leaving_silent}
 
 -- a choice that suits
 suits : {A : Type 0} (b : Bool) (o : Option A) (x : A) → when b o ≡ Some x → (b ≡ true) × (o ≡ Some x)

@@ -15,7 +15,7 @@ use Rattle.ov_specs.proofs.laws.Histories.{run_parts, closed_by_first}
 use Rattle.ov_specs.proofs.laws.Queueing.{InOrder, step_in_order, step_sends_open}
 use Rattle.ov_specs.proofs.laws.Turns.{MayClose, turn_open, turn_tick, turn_close, turn_close_other, turn_take, turn_take_other, stepped}
 use Rattle.ov_outbox.proofs.Answered.{frames_to-append}
-use Rattle.ov_core.proofs.Leaves.{leaving_silent}
+use Rattle.ov_specs.proofs.laws.Leaves.{leaving_silent}
 use Rattle.std.proofs.lemmas.Option.{same_Some}
 
 -- ---- what a step sends

@@ -51,5 +51,6 @@ pub mod Following
 pub mod Committing
 pub mod LockQueues
 pub mod Locks
+pub mod Leaves
 pub mod KeyedLists
 pub mod Monitoring

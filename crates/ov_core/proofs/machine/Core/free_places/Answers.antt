@@ -1,6 +1,6 @@
 use Rattle.std.proofs.Common.{◌-◌, ◌∙◌, ap, sym}
 use Rattle.ov_sessions.specs.Sessions.{most_sessions}
-use Rattle.ov_core.proofs.Watching.{length-sessions}
+use Rattle.ov_live.proofs.Watching.{length-sessions}
 use Rattle.ov_core.proofs.machine.Core.free_places.Goals as goal
 
 pub returns : goal.returns

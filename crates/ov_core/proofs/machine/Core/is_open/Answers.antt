@@ -1,5 +1,5 @@
 use Rattle.std.proofs.Common.{◌∙◌, sym}
-use Rattle.ov_core.proofs.Watching.{any-serial}
+use Rattle.ov_live.proofs.Watching.{any-serial}
 use Rattle.ov_core.proofs.machine.Core.is_open.Goals as goal
 
 pub returns : goal.returns

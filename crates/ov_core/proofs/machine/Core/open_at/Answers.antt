@@ -1,9 +1,9 @@
 use Rattle.std.proofs.Common.{◌≤◌, ◌∙◌, refl, rules, sym, ap, arith}
 use Rattle.ov_sessions.specs.Sessions.{has_no_room}
 use Rattle.ov_history.specs.Entries.{session_in}
-use Rattle.ov_core.proofs.Asking.{asks_nothing}
+use Rattle.ov_live.proofs.Asking.{asks_nothing}
 use Rattle.ov_core.proofs.Steps.{opened, has_opened, nothing_chosen, entry_of}
-use Rattle.ov_core.proofs.Watching.{length-sessions}
+use Rattle.ov_live.proofs.Watching.{length-sessions}
 use Rattle.ov_specs.specs.machine.Machine.{Open}
 use Rattle.ov_core.proofs.machine.Core.open_at.Goals as goal
 

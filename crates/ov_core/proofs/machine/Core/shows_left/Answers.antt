@@ -1,5 +1,5 @@
-use Rattle.ov_core.specs.States.{machine_state}
-use Rattle.ov_core.proofs.Workings.{its_own}
+use Rattle.ov_live.specs.States.{machine_state}
+use Rattle.ov_core.proofs.Leaving.{its_own}
 use Rattle.ov_core.proofs.machine.Core.shows_left.Goals as goal
 
 pub returns-clause-own : goal.returns-clause-own

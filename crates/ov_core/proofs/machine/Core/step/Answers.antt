@@ -5,7 +5,7 @@ use Rattle.ov_core.proofs.machine.Core.step.Goals as goal
 
 pub returns-then-close_at-clause-steps : goal.returns-then-close_at-clause-steps
 returns-then-close_at-clause-steps g c =
-    let at : c.max-moment.result ≡ max c.args.moment c.args.self.now.state.moment = c.max-moment.ensures ∙ ap (λ (r : CoreState _ _). max c.args.moment r.state.moment) c.self.view_is in
+    let at : c.moment_of-moment.result ≡ max c.args.moment c.args.self.now.state.moment = c.moment_of-moment.ensures ∙ ap (λ (r : CoreState _ _). max c.args.moment r.state.moment) c.self.view_is in
     rw (c.in-Close.is, ← at) (closed_as_asked _ _ _ _ _ _ c.if-close_at.ensures.closes)
 
 pub returns-then-close_at-clause-keeps : goal.returns-then-close_at-clause-keeps

@@ -2,10 +2,10 @@ use Rattle.std.proofs.Common.{◌≡◌, ◌≤◌, ◌∙◌, length, true, fal
 use Rattle.std.proofs.lemmas.List.{length-map}
 use Rattle.ov_history.specs.Entries.{session_in}
 use Rattle.ov_specs.specs.machine.Machine.{Take, is_open}
-use Rattle.ov_core.specs.States.{machine_state, machine_sessions}
-use Rattle.ov_core.proofs.FewWaiting.{history_few, has_room}
+use Rattle.ov_live.specs.States.{machine_state, machine_sessions}
+use Rattle.ov_live.proofs.FewWaiting.{history_few, has_room}
 use Rattle.ov_core.proofs.Steps.{took, has_entered, entered_as, closed_for_memory}
-use Rattle.ov_core.proofs.Watching.{any-serial}
+use Rattle.ov_live.proofs.Watching.{any-serial}
 use Rattle.ov_core.proofs.machine.Core.take.Goals as goal
 use Rattle.ov_core.proofs.machine.Core.take.Goals.{then-is_open, else-is_open}
 

@@ -1,0 +1,11 @@
+pub mod Watching
+pub mod Refusing
+pub mod Preparings
+pub mod Prepared
+pub mod Workings
+pub mod Asking
+pub mod Counting
+pub mod Trying
+pub mod Settlings
+pub mod Takings
+pub mod FewWaiting
