@@ -1,5 +1,4 @@
--- How the program ends when it serves at an address, by what it met there; and after which endings a file is closed.
-use Rattle.std.specs.Prelude.{Bool, true, false}
+-- How the program ends when it serves at an address, by what it met there.
 use Rattle.ov_words.specs.declared.ending.Ending.{Ending}
 use Rattle.ov_words.specs.declared.ending.Ending.TheVariants as ending
 use Rattle.ov_sockets.specs.declared.fault.ListenFault.{ListenFault}
@@ -17,12 +16,3 @@ abbrev pub by_serving : ServeFault → Ending
 by_serving serving.Threads = ending.Streams
 by_serving serving.TooMany = ending.Streams
 by_serving serving.Memory = ending.Memory
-
--- the file is closed after this ending
-abbrev pub closes_file : Ending → Bool
-closes_file ending.InputEnded = true
-closes_file ending.Arguments = false
-closes_file ending.Schema = false
-closes_file ending.Database = false
-closes_file ending.Streams = true
-closes_file ending.Memory = false

@@ -1,7 +1,7 @@
 //! How the program ends when it serves at an address, by what it met there.
 
 ghost use Rattle.std.specs.Prelude.{◌≡◌};
-ghost use Rattle.ov_listen.specs.Endings.{by_listening, by_serving, closes_file};
+ghost use Rattle.ov_listen.specs.Endings.{by_listening, by_serving};
 
 use ov_lanes::ServeFault;
 use ov_sockets::ListenFault;
@@ -25,11 +25,4 @@ pub fn ending_of_serving(fault: ServeFault) -> Ending
         ServeFault::Threads | ServeFault::TooMany => Ending::Streams,
         ServeFault::Memory => Ending::Memory,
     }
-}
-
-/// Whether a database's file is closed after its sessions ended so: after `InputEnded` and `Streams` alone.
-pub fn closes_file(ending: Ending) -> bool
-    ensures { result ≡ closes_file ending }
-{
-    matches!(ending, Ending::InputEnded | Ending::Streams)
 }

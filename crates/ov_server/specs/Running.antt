@@ -14,11 +14,12 @@ use Rattle.ov_words.specs.Words.{settings_of}
 use Rattle.ov_listen.specs.Pipes.{PipesState}
 use Rattle.ov_listen.specs.declared.endpoint.Endpoint.{Endpoint}
 use Rattle.ov_listen.specs.declared.endpoint.Endpoint.TheVariants.{Pipes, Address}
-use Rattle.ov_listen.specs.declared.database.Service.{Service}
-use Rattle.ov_listen.specs.declared.database.DatabaseEnded.{DatabaseEnded}
-use Rattle.ov_listen.specs.Databases.{EndsMemory, IsInFile, IsInMemory, MemoryState}
-use Rattle.ov_listen.specs.Files.{EndsFile}
+use Rattle.ov_listen.specs.declared.memory.Service.{Service}
 use Rattle.ov_listen.specs.Environment.{Environment}
+use Rattle.ov_listen.specs.Memory.{EndsMemory}
+use Rattle.ov_service.specs.declared.database.DatabaseEnded.{DatabaseEnded}
+use Rattle.ov_service.specs.Databases.{IsInFile, IsInMemory, MemoryState}
+use Rattle.ov_service.specs.Files.{EndsFile}
 use Rattle.ov_server.specs.Schemas.{IsBuiltIn}
 
 -- the ending if the system gives no arguments, for an error of this kind

@@ -9,13 +9,12 @@ use ov_ends::{Clock as MomentClock, Sink, Source};
 use ov_hall::End;
 use ov_keeper::Keeper;
 use ov_listen::{
-    DatabaseEnded, Endpoint, MonotonicClock, Pipes, Service, pipes_over, serve_at,
-    serve_connections, serve_memory,
+    Endpoint, MonotonicClock, Pipes, Service, pipes_over, serve_at, serve_connections, serve_memory,
 };
 use ov_requests::Draws;
 use ov_schema::text_of;
 use ov_sockets::{ClientReader, ClientWriter, accept_all, listen};
-use ov_words::Ending;
+use ov_words::{Ending, ending_of_open};
 use ov_workers::Link;
 use std::alloc::Global;
 use std::collections::VecDeque;
@@ -201,7 +200,10 @@ where
     W: Sink,
     C: MomentClock,
 {
-    DatabaseEnded::Memory(serve_memory(rt, alloc, service, pipes)).ending()
+    match serve_memory(rt, alloc, service, pipes) {
+        Ok(ended) => ended.ending,
+        Err(refused) => ending_of_open(refused.fault),
+    }
 }
 
 /// How sessions end at this endpoint, with a new in-memory database Net.

@@ -18,12 +18,12 @@ use Rattle.ov_words.specs.Causes.{by_keeping, by_open}
 use Rattle.ov_listen.specs.Pipes.{PipesState}
 use Rattle.ov_listen.specs.declared.endpoint.Ended.{Ended}
 use Rattle.ov_listen.specs.declared.endpoint.Offer.{Offer}
-use Rattle.ov_listen.specs.declared.database.Service.{Service}
-use Rattle.ov_listen.specs.declared.file.FileEnded.{FileEnded}
-use Rattle.ov_listen.specs.Endings.{closes_file}
+use Rattle.ov_listen.specs.declared.memory.Service.{Service}
 use Rattle.ov_listen.specs.Environment.{Environment}
+use Rattle.ov_listen.specs.Memory.{offer_of}
 use Rattle.ov_listen.specs.Offers.{ServesOffer, RefusesOffer}
-use Rattle.ov_listen.specs.Databases.{offer_of}
+use Rattle.ov_service.specs.declared.file.FileEnded.{FileEnded}
+use Rattle.ov_service.specs.Closing.{closes_file}
 
 -- how the sessions of a store ended: with the core that served them, or without a core
 abbrev pub StoreEnded : Type 0 → Type 0 → Type 0

@@ -1,17 +1,14 @@
 //! Sessions of the database in a file.
 ghost use Rattle.sqlite_wal.specs.Files.{image_at};
 ghost use Rattle.ov_listen.specs.Pipes.{pipes_state};
-ghost use Rattle.ov_listen.specs.Files.{ClosesKept, EndsFile, EndsKept, EndsStore};
 ghost use Rattle.ov_listen.specs.Environment.{environment_of};
+ghost use Rattle.ov_service.specs.Files.{ClosesKept, EndsFile, EndsKept, EndsStore};
 
-use crate::database::Service;
-use crate::endings::closes_file;
-use crate::endpoint::{Ended, Offer, serve_offer};
-use crate::pipes::Pipes;
-use crate::system::System;
+use crate::closing::closes_file;
 use ov_ends::{Clock, Sink, Source};
 use ov_files::{close_in_file, store_in_file};
 use ov_keeper::{KeepFault, Keeper};
+use ov_listen::{Ended, Offer, Pipes, Service, System, serve_offer};
 use ov_requests::Draws;
 use ov_store::Store;
 use ov_words::{Ending, ending_of_keeping, ending_of_open};

@@ -1,6 +1,6 @@
 use Rattle.std.proofs.Common.{ap}
 use Rattle.ov_listen.specs.Pipes.{pipes_state}
-use Rattle.ov_listen.proofs.file.serve_store.Goals as goal
+use Rattle.ov_service.proofs.file.serve_store.Goals as goal
 
 pub returns-in-Err-serve_offer : goal.returns-in-Err-serve_offer
 returns-in-Err-serve_offer g c =

@@ -2,12 +2,12 @@ use Rattle.std.proofs.Common.{◌≡◌, IfOk, IfErr, refl, ap}
 use Rattle.std.specs.Prelude.{Result, Ok, Err, OnErr}
 use Rattle.ov_db.specs.declared.fault.RefusedOpen.{RefusedOpen}
 use Rattle.ov_listen.specs.Pipes.{PipesState, pipes_state}
-use Rattle.ov_listen.specs.declared.database.Service.{Service}
+use Rattle.ov_listen.specs.declared.memory.Service.{Service}
 use Rattle.ov_listen.specs.declared.endpoint.Ended.{Ended}
-use Rattle.ov_listen.specs.Databases.{EndsMemory, IsNewKeeper, offer_of}
+use Rattle.ov_listen.specs.Memory.{EndsMemory, IsNewKeeper, offer_of}
 use Rattle.ov_listen.specs.Environment.{Environment}
 use Rattle.ov_listen.specs.Offers.{ServesOffer, RefusesOffer}
-use Rattle.ov_listen.proofs.database.serve_memory.Goals as goal
+use Rattle.ov_listen.proofs.memory.serve_memory.Goals as goal
 
 -- what came of a new keeper, by what serving it returned
 by_result : {K D C P : Type 0} (e : Environment K D C) (service : Service D) (keeper : K) (view : P → PipesState C) (before after : P) (result : Result (Ended K D) (RefusedOpen K)) → IsNewKeeper e.keeper service.text keeper
