@@ -73,7 +73,7 @@ fn noted_text(alloc: Global, noted: Noted, passed: u64) -> Result<String, AllocE
 }
 
 /// The lines of the items in the ring, and a last one.
-fn with_last(
+pub(crate) fn with_last(
     alloc: Global,
     ring: &mut Consumer<Item>,
     last: Result<String, AllocError>,

@@ -2,7 +2,7 @@ ghost use Rattle.std.specs.Prelude.{◌≡◌, [], IfOk};
 ghost use Rattle.rtrb.specs.Ring.{sent, received};
 
 use crate::gates::CountingGate;
-use crate::readers::{Item, STREAM, reader_of};
+use crate::readers::{Item, STREAM, reader_of, with_last};
 use crate::told::{begin, next, tells};
 use ov_base::Bytes;
 use ov_ends::Watched;
@@ -185,7 +185,7 @@ fn told_of(
     format!(in alloc; "{cause:?} {written} {first:?} {passed} {is_over}")
 }
 
-/// The same for a session with this order.
+/// The lines of what the reader brought for a session with this order, and that as the last one.
 fn serve_with<R: Threads + Wait + Sync, L: Ledger + Send + Sync>(
     rt: &R,
     alloc: Global,
@@ -196,10 +196,8 @@ fn serve_with<R: Threads + Wait + Sync, L: Ledger + Send + Sync>(
 {
     let flushed = Bell::new();
     let (ends, desk) = ends_of(rt, alloc, &flushed, share)?;
-    let Desk {
-        inbound: _inbound,
-        out,
-    } = desk;
+    let Desk { inbound, out } = desk;
+    let mut inbound = inbound;
     let gate = CountingGate::new(Point::BeforeWrite);
     let bell = Bell::new();
     let common = Common {
@@ -209,13 +207,14 @@ fn serve_with<R: Threads + Wait + Sync, L: Ledger + Send + Sync>(
         gate: &gate,
     };
     let served = in_scope(common, &bell, &flushed, ends, out);
-    told_of(
+    let told = told_of(
         alloc,
         served,
         next(rt, order),
         gate.passed(),
         bell.is_over(),
-    )
+    );
+    with_last(alloc, &mut inbound, told)
 }
 
 /// The same with a ledger and an order of its own.
@@ -232,8 +231,13 @@ fn serve<R: Threads + Wait + Sync, L: Ledger + Send + Sync>(
     serve_with(rt, alloc, &order, share)
 }
 
+const BOTH_RAN: &str = r#"{"id":0,"method":"echo","params":[]}
+{"id":1,"method":"echo","params":["}"]}
+InputEnded
+InputEnded [1][2][3] Some(7) 3 true"#;
+
 #[test]
 fn both_workers_of_a_session_run_in_threads(rt: HostRuntime) -> Result<(), Fail> {
     let told = serve::<HostRuntime, Brand>(&rt, rt.alloc(), Blank::new(1));
-    tells(rt.alloc(), told, "InputEnded [1][2][3] Some(7) 3 true")
+    tells(rt.alloc(), told, BOTH_RAN)
 }

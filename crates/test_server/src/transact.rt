@@ -147,7 +147,7 @@ const MISREAD: &str =
 >{"id":9,"method":"transact","params":["Net",{"op":"select","table":"Switch","where":[["load","==",["set",[4,4]]]],"columns":["nam"]}]}
 <{"error":null,"id":9,"result":[{"error":"unknown column"}]}"#;
 
-/// Every operation except `assert`, at least once.
+/// Every operation, at least once.
 const OPERATIONS: &str =
     r#">{"id":1,"method":"transact","params":["Net",{"op":"insert","table":"Switch","row":{"name":"s1","ports":["named-uuid","p"]}},{"op":"insert","table":"Port","uuid-name":"p","row":{"name":"p1"}},{"op":"comment","comment":"two rows"}]}
 <{"error":null,"id":1,"result":[{"uuid":["uuid","00000000-0000-4000-8000-000000000002"]},{"uuid":["uuid","00000000-0000-4000-8000-000000000003"]},{}]}
@@ -162,7 +162,13 @@ const OPERATIONS: &str =
 >{"id":6,"method":"transact","params":["Net",{"op":"wait","table":"Port","where":[],"columns":["name"],"until":"==","rows":[{"name":"p1"}]},{"op":"delete","table":"Port","where":[]},{"op":"select","table":"Port","where":[]},{"op":"update","table":"Switch","where":[],"row":{"ports":["set",[]]}}]}
 <{"error":null,"id":6,"result":[{},{"count":1},{"rows":[]},{"count":1}]}
 >{"id":7,"method":"transact","params":["Net",{"op":"insert","table":"Switch","uuid-name":"p","row":{}},{"op":"insert","table":"Switch","uuid-name":"p","row":{}}]}
-<{"error":null,"id":7,"result":[{"uuid":["uuid","00000000-0000-4000-8000-00000000000a"]},{"error":"duplicate uuid-name"}]}"#;
+<{"error":null,"id":7,"result":[{"uuid":["uuid","00000000-0000-4000-8000-00000000000a"]},{"error":"duplicate uuid-name"}]}
+>{"id":8,"method":"transact","params":["Net",{"op":"assert","lock":"L"}]}
+<{"error":null,"id":8,"result":[{"error":"not owner"}]}
+>{"id":9,"method":"lock","params":["L"]}
+<{"error":null,"id":9,"result":{"locked":true}}
+>{"id":10,"method":"transact","params":["Net",{"op":"assert","lock":"L"}]}
+<{"error":null,"id":10,"result":[{}]}"#;
 
 /// A transaction that waits is not answered, and nothing of it is committed. One whose timeout has passed is answered.
 const WAITING: &str =
